@@ -1,0 +1,5 @@
+pub mod Joined
+pub mod Again
+pub mod Entries
+pub mod Plain
+pub mod Examples

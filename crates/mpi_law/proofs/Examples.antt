@@ -1,0 +1,159 @@
+-- The registry of one rank: a session, its group and a communicator; and what calls are refused.
+use Rattle.std.proofs.Common.{◌≡◌, ℕ, true, false, List, [], ◌∷◌, ◌++◌, replicate, Some, codes, refl, lit≤, lit<}
+use Rattle.mpi_base.specs.declared.keys.Key.{Key}
+use Rattle.mpi_base.specs.declared.keys.Kind.TheVariants as kind
+use Rattle.mpi_base.specs.declared.ops.Op.{Op}
+use Rattle.mpi_base.specs.declared.ops.Op.TheVariants as op
+use Rattle.mpi_base.specs.declared.ops.Reply.TheVariants as reply
+use Rattle.mpi_base.specs.declared.errors.ErrClass.TheVariants as class
+use Rattle.mpi_law.specs.declared.rows.Bound.TheVariants.{Session, Group}
+use Rattle.mpi_law.specs.declared.setting.Setting.{Setting}
+use Rattle.mpi_law.specs.ScriptLists.{AllScripts}
+use Rattle.mpi_law.specs.Local.{Local, Effect, Says, bind, effect_of}
+use Rattle.mpi_law.specs.Registry.{Registry, Event, Calls, Picks, Replies, registry_opening, registry_next, registry_after, IsRegistryRun}
+use Rattle.mpi_law.specs.Closed.{is_closed}
+
+-- one rank
+abbrev one : Setting
+one = record { ranks = 1; contexts = 63 }
+
+abbrev start : Registry
+start = registry_opening one
+
+abbrev open_session : Op
+open_session = op.Session (codes "s")
+
+abbrev group_of_self : Op
+group_of_self = op.Pset (codes "s") (codes "mpi://SELF") (codes "g")
+
+abbrev create : Op
+create = op.Create (codes "g") (codes "a") (codes "c")
+
+abbrev key : Key
+key = record { parent = 0; kind = kind.From; number = 0; tag = codes "a"; members = 0 ∷ [] }
+
+-- a session, its group, a creation and its pick
+abbrev six : List Event
+six =
+    Calls 0 0 open_session true ∷ Replies 0 0 reply.Fine
+    ∷ Calls 0 0 group_of_self true ∷ Replies 0 0 (reply.Group (0 ∷ []))
+    ∷ Calls 0 0 create false
+    ∷ Picks 0 key (Some 1)
+    ∷ []
+
+-- and the communicator
+abbrev seven : List Event
+seven = six ++ Replies 0 0 (reply.Comm 1 0 1) ∷ []
+
+-- each of the seven events is allowed when it comes
+seven_are_a_run : IsRegistryRun one start seven
+unfolding registry_next effect_of
+seven_are_a_run = (
+  record { rank = lit< tt; thread = lit< tt; idle = refl; reply = refl },
+  (
+    refl,
+    (
+      record { rank = lit< tt; thread = lit< tt; idle = refl; reply = refl },
+      (
+        refl,
+        (
+          record { rank = lit< tt; thread = lit< tt; idle = refl; reply = refl },
+          (
+            (record { named = refl; there = lit< tt; all = refl }, record { above = lit≤ tt; below = lit≤ tt; unused = refl }),
+            (
+              refl,
+              tt,
+            ),
+          ),
+        ),
+      ),
+    ),
+  ),
+)
+
+-- they leave one communicator, of context 1 and rank 0
+one_communicator : (registry_after one start seven).comms ≡ record { ctx = 1; members = 0 ∷ [] } ∷ []
+unfolding registry_next effect_of
+one_communicator = refl
+
+-- thread 0 calls three operations, no other thread calls any
+abbrev scripts : AllScripts
+scripts = record { ranks = 1; lists = (open_session ∷ group_of_self ∷ create ∷ []) ∷ replicate 7 [] }
+
+-- nothing more may come after the seven
+seven_close : is_closed one scripts (registry_after one start seven) ≡ true
+unfolding registry_next effect_of is_closed
+seven_close = refl
+
+-- while the communicator is owed, the registry is not closed
+six_do_not_close : is_closed one scripts (registry_after one start six) ≡ false
+unfolding registry_next effect_of is_closed
+six_do_not_close = refl
+
+-- What calls are answered
+
+-- no name, and no session
+abbrev nothing : Local
+nothing = record { names = []; sessions = 0 }
+
+-- a session and two groups of it: rank 0 alone, and the empty group
+abbrev groups : Local
+groups =
+    record {
+      names = bind (bind (bind [] (codes "s") (Session 1)) (codes "g") (Group (0 ∷ []) 1)) (codes "e") (Group [] 1);
+      sessions = 1;
+    }
+
+-- a call at a rank where no creation is open
+abbrev answer : ℕ → Local → Op → Effect
+answer rank l o = effect_of one rank (λ group tag. false) l o
+
+-- a session under a name that is bound
+session_on_bound : answer 0 groups open_session ≡ Says groups (reply.Refused class.Arg)
+unfolding effect_of
+session_on_bound = refl
+
+-- a group of no session
+pset_on_no_session : answer 0 nothing group_of_self ≡ Says nothing (reply.Refused class.Session)
+unfolding effect_of
+pset_on_no_session = refl
+
+-- a group of a group
+pset_on_group : answer 0 groups (op.Pset (codes "g") (codes "mpi://SELF") (codes "h")) ≡ Says groups (reply.Refused class.Session)
+unfolding effect_of
+pset_on_group = refl
+
+-- a process set that is not there
+pset_of_no_set : answer 0 groups (op.Pset (codes "s") (codes "app://ocean") (codes "h")) ≡ Says groups (reply.Refused class.Arg)
+unfolding effect_of
+pset_of_no_set = refl
+
+-- a group under a name that is bound
+pset_on_bound : answer 0 groups group_of_self ≡ Says groups (reply.Refused class.Arg)
+unfolding effect_of
+pset_on_bound = refl
+
+-- a creation from no group
+create_on_no_group : answer 0 nothing create ≡ Says nothing (reply.Refused class.Group)
+unfolding effect_of
+create_on_no_group = refl
+
+-- a creation from a group that lacks the caller
+create_from_outside : answer 1 groups create ≡ Says groups (reply.Refused class.Group)
+unfolding effect_of
+create_from_outside = refl
+
+-- a creation under a name that is bound
+create_on_bound : answer 0 groups (op.Create (codes "g") (codes "a") (codes "s")) ≡ Says groups (reply.Refused class.Arg)
+unfolding effect_of
+create_on_bound = refl
+
+-- a creation of a group and tag that is open at the rank
+create_while_open : effect_of one 0 (λ group tag. true) groups create ≡ Says groups (reply.Refused class.Busy)
+unfolding effect_of
+create_while_open = refl
+
+-- a creation from the empty group makes no communicator
+create_from_empty : answer 0 groups (op.Create (codes "e") (codes "a") (codes "c")) ≡ Says groups reply.Null
+unfolding effect_of
+create_from_empty = refl

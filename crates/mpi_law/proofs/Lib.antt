@@ -1,0 +1,2 @@
+pub mod ScriptFacts
+mod Examples

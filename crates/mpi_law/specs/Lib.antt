@@ -1,0 +1,5 @@
+pub mod Settings
+pub mod ScriptLists
+pub mod Local
+pub mod Registry
+pub mod Closed

@@ -1,0 +1,43 @@
+-- Scripts: a list of operations for each rank and thread.
+use Rattle.mpi_base.specs.declared.members.TheConstants.{MOST_RANKS}
+use Rattle.std.specs.Prelude.{◌≡◌, ℕ, ◌+◌, ◌*◌, ◌^◌, ◌<◌, ◌≤◌, Bool, true, List, [], get_or, slice_get, Option, sum_by, length, bytes_eq, codes, set, ◌++◌, ◌∷◌}
+use Rattle.mpi_base.specs.declared.ops.Op.{Op}
+use Rattle.mpi_base.specs.declared.ops.Op.TheVariants.{Session, Pset, Create}
+
+-- the ranks, and the script of thread t of rank r at the place 8 r + t
+pub record AllScripts : Type 0 where
+  pub ranks : ℕ
+  pub lists : List (List Op)
+
+-- the script of a thread of a rank
+abbrev pub script_of : AllScripts → ℕ → ℕ → List Op
+script_of scripts r t = get_or scripts.lists (8 * r + t) []
+
+-- the operation that a thread calls next, when it has made so many calls
+abbrev pub next_op : AllScripts → ℕ → ℕ → ℕ → Option Op
+next_op scripts r t calls = slice_get (script_of scripts r t) calls
+
+-- how many operations there are in all
+abbrev pub total_of : AllScripts → ℕ
+total_of scripts = sum_by length scripts.lists
+
+-- the scripts with one more operation at the end of one of them
+abbrev pub with_op : AllScripts → ℕ → ℕ → Op → AllScripts
+with_op scripts r t op = record { ranks = scripts.ranks; lists = set scripts.lists (8 * r + t) (script_of scripts r t ++ op ∷ []) }
+
+-- the name of the process set that holds the caller alone (MPI 4.0, 11.3.2)
+abbrev pub self_set : List ℕ
+self_set = codes "mpi://SELF"
+
+-- whether an operation may be called yet
+abbrev pub is_built : Op → Bool
+is_built (Session target) = true
+is_built (Pset session set target) = bytes_eq set self_set
+is_built (Create group tag target) = true
+
+-- eight scripts for each rank, and their operations counted
+pub record IsScripts (ranks total : ℕ) (lists : List (List Op)) : Type 0 where
+  pub few : ranks ≤ MOST_RANKS
+  pub each : length lists ≡ 8 * ranks
+  pub counted : total ≡ sum_by length lists
+  pub small : total < 2 ^ 32

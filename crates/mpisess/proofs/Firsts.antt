@@ -1,0 +1,167 @@
+-- The first choice on one rank, and when it has none.
+use Rattle.std.proofs.Common.{◌≡◌, ◌⊎◌, ℕ, zero, suc, ◌<◌, ◌≤◌, ◌==◌, ◌&&◌, ◌||◌, nat_lt, if◌then◌else◌, Bool, true, false, List, [], ◌∷◌, Option, Some, None, refl, sym, ◌∙◌, subst, inl, inr, arith, true≢false, slice_get}
+use Rattle.std.proofs.lemmas.Bool.Decides.{nat_tests}
+use Rattle.std.proofs.lemmas.Grind.{common_steps}
+use Rattle.std.specs.List.{AllByRecursion}
+use Rattle.std.specs.Prelude.{IfSome}
+use Rattle.std.specs.Option.{IfNone}
+use Rattle.mpi_base.specs.declared.keys.Key.{Key}
+use Rattle.mpi_base.specs.Keys.{same_key, key_before}
+use Rattle.mpi_base.proofs.KeyFacts.{same_key-refl, key_before_total}
+use Rattle.mpi_base.specs.declared.ops.Op.{Op}
+use Rattle.mpi_base.specs.declared.entries.Act.{Act}
+use Rattle.mpi_base.specs.declared.entries.Act.TheVariants.{Call, Answer, Offer as MakeOffer, Settle}
+use Rattle.mpi_law.specs.ScriptLists.{AllScripts, script_of, next_op, is_built}
+use Rattle.mpi_protocol.specs.declared.rows.Stage.{Stage}
+use Rattle.mpi_protocol.specs.declared.rows.Stage.TheVariants.{Called, Waiting, Offered, Done}
+use Rattle.mpi_protocol.specs.Rank.{Rank, stage_of, thread_at, is_idle}
+use Rattle.mpi_protocol.specs.Step.{is_enabled, is_due}
+use Rattle.mpi_protocol.specs.World.{rank_at, may_happen}
+use Rattle.mpi_protocol.specs.Order.{IsFirstChoice, IsQuiet, IsOfScript, is_no_later, is_call, is_offered}
+use Rattle.rank_core.specs.declared.next.StepKind.TheVariants as kind
+use Rattle.rank_core.specs.Next.{IsNext, NoneNext}
+use Rattle.run_law.specs.Solo.{IsSolo}
+use Rattle.mpisess.specs.Calls.{IsNextCall, NoNextCall}
+use Rattle.mpisess.specs.Job.{IsSoloJob}
+
+-- no answer, no settle and no offer may be made
+pub record Still (x : Rank) : Type 0 where
+  pub answers : NoneNext x kind.Answer None
+  pub settles : NoneNext x kind.Settle None
+  pub offers : NoneNext x kind.Offer None
+
+-- there is no other rank
+far : (x : Rank) (r : ℕ) (a : Act) → may_happen (x ∷ []) (record { rank = suc r; act = a }) ≡ false
+far x r a = let l : nat_lt (suc r) 1 ≡ false = grind (arith, nat_tests) in rw l refl
+
+no_answer : (x : Rank) (t : ℕ) → NoneNext x kind.Answer None → is_enabled x (Answer t) ≡ true → ⊥
+no_answer x t none e = true≢false (none (Answer t) refl e)
+
+no_settle : (x : Rank) (key : Key) → NoneNext x kind.Settle None → is_enabled x (Settle key) ≡ true → ⊥
+no_settle x key none e = true≢false (none (Settle key) refl e)
+
+no_offer : (x : Rank) (key : Key) → NoneNext x kind.Offer None → is_enabled x (MakeOffer key) ≡ true → ⊥
+no_offer x key none e = true≢false (none (MakeOffer key) refl e)
+
+-- a key whose offer is due is not offered
+due_is_not_offered : (s : Option Stage) → is_due s ≡ true → is_offered s ≡ false
+due_is_not_offered None e = refl
+due_is_not_offered (Some Called) e = refl
+due_is_not_offered (Some (Waiting i)) e = refl
+due_is_not_offered (Some (Offered i own)) e = absurd (true≢false (sym e))
+due_is_not_offered (Some (Done o)) e = refl
+
+not_offered : (x : Rank) (key : Key) → is_enabled x (MakeOffer key) ≡ true → is_offered (stage_of x.opened key) ≡ false
+unfolding is_enabled
+not_offered x key e = due_is_not_offered (stage_of x.opened key) e
+
+-- of two keys, one that is not after the other comes first or is the same
+not_after : (k l : Key) → key_before l k ≡ false → (key_before k l || (same_key k l && true)) ≡ true
+not_after k l e = go (key_before_total k l) where
+  go : (k ≡ l) ⊎ ((key_before k l ≡ true) ⊎ (key_before l k ≡ true)) → (key_before k l || (same_key k l && true)) ≡ true
+  go (inl s) = subst (λ (m : Key). (key_before k m || (same_key k m && true)) ≡ true) s (grind (arith, common_steps, same_key-refl k))
+  go (inr (inl b)) = grind (arith, common_steps, b)
+  go (inr (inr b)) = absurd (true≢false (sym b ∙ e))
+
+-- of two offers that are due, the one whose key is not after the other's is no later
+offer_no_later : (x : Rank) (k l : Key) → is_enabled x (MakeOffer k) ≡ true → is_enabled x (MakeOffer l) ≡ true → key_before l k ≡ false
+    → is_no_later (x ∷ []) (record { rank = 0; act = MakeOffer k }) (record { rank = 0; act = MakeOffer l }) ≡ true
+offer_no_later x k l e f b = rw (not_offered x k e, not_offered x l f) (not_after k l b)
+
+-- the offers are the fourth or fifth kind, and calls the last
+offer_before_call : (x : Rank) (k : Key) (t : ℕ) (op : Op) → is_no_later (x ∷ []) (record { rank = 0; act = MakeOffer k }) (record { rank = 0; act = Call t op }) ≡ true
+offer_before_call x k t op = cases (is_offered (stage_of x.opened k)) where
+  cases : (b : Bool) → (nat_lt (if b || false then 4 else 5) 8 || (((if b || false then 4 else 5) == 8) && true)) ≡ true
+  cases true = refl
+  cases false = refl
+
+not_before : (b : Bool) → (b ≡ true → ⊥) → b ≡ false
+not_before true n = absurd (n refl)
+not_before false n = refl
+
+-- the least offer is the first choice where nothing can be answered or settled
+pub offer_first : (x : Rank) (scripts : AllScripts) (act : Act) → IsNext x kind.Offer None act → NoneNext x kind.Answer None → NoneNext x kind.Settle None
+    → IsFirstChoice (x ∷ []) scripts (record { rank = 0; act = act })
+offer_first x scripts (Call t op) n answers settles = absurd (true≢false (sym n.kind))
+offer_first x scripts (Answer t) n answers settles = absurd (true≢false (sym n.kind))
+offer_first x scripts (Settle key) n answers settles = absurd (true≢false (sym n.kind))
+offer_first x scripts (MakeOffer key) n answers settles = record {
+  may = record { enabled = n.enabled; scripted = tt };
+  least = λ d may. later d.rank d.act may.enabled;
+} where
+  later : (r : ℕ) (a : Act) → may_happen (x ∷ []) (record { rank = r; act = a }) ≡ true → is_no_later (x ∷ []) (record { rank = 0; act = MakeOffer key }) (record { rank = r; act = a }) ≡ true
+  later (suc r) a e = absurd (true≢false (sym e ∙ far x r a))
+  later zero (Call t op) e = offer_before_call x key t op
+  later zero (Answer t) e = absurd (no_answer x t answers e)
+  later zero (Settle l) e = absurd (no_settle x l settles e)
+  later zero (MakeOffer l) e = offer_no_later x key l n.enabled e (n.least (MakeOffer l) refl e refl)
+
+-- a thread that has no script calls nothing
+others_end : (scripts : AllScripts) (t : ℕ) → 1 ≤ t → IsSolo scripts → (calls : ℕ) → next_op scripts 0 t calls ≡ None
+others_end scripts t l alone calls = rw (alone t l) refl
+
+none_some : {A : Type 0} (y : A) (a : Option A) → a ≡ None → a ≡ Some y → ⊥
+none_some y a n e = absurd (cc (n, e))
+
+-- the next call is the first choice where nothing else can be done
+pub call_first : (x : Rank) (scripts : AllScripts) (act : Act) → IsSolo scripts → Still x → IsNextCall x scripts act → IsFirstChoice (x ∷ []) scripts (record { rank = 0; act = act })
+call_first x scripts act alone still n = subst (λ (a : Act). IsFirstChoice (x ∷ []) scripts (record { rank = 0; act = a })) (sym n.call) (record {
+  may = record { enabled = subst (λ (a : Act). is_enabled x a ≡ true) n.call n.enabled; scripted = n.scripted };
+  least = λ d may. later d.rank d.act may.enabled may.scripted;
+}) where
+  later : (r : ℕ) (a : Act) → may_happen (x ∷ []) (record { rank = r; act = a }) ≡ true → IsOfScript scripts (rank_at (x ∷ []) r) r a
+      → is_no_later (x ∷ []) (record { rank = 0; act = Call 0 n.op }) (record { rank = r; act = a }) ≡ true
+  later (suc r) a e s = absurd (true≢false (sym e ∙ far x r a))
+  later zero (Call zero op) e s = refl
+  later zero (Call (suc t) op) e s = grind (arith, nat_tests)
+  later zero (Answer t) e s = absurd (no_answer x t still.answers e)
+  later zero (Settle l) e s = absurd (no_settle x l still.settles e)
+  later zero (MakeOffer l) e s = absurd (no_offer x l still.offers e)
+
+some_same : {A : Type 0} {a b : A} → Some a ≡ Some b → a ≡ b
+some_same e = cc e
+
+-- an operation of a script is one of those that may be called yet
+built_at : (ops : List Op) (i : ℕ) (op : Op) → AllByRecursion (λ o. is_built o ≡ true) ops → slice_get ops i ≡ Some op → is_built op ≡ true
+built_at [] i op all e = absurd (none_some op None refl e)
+built_at (o ∷ ops) zero op all e = subst (λ (a : Op). is_built a ≡ true) (some_same e) all.0
+built_at (o ∷ ops) (suc i) op all e = built_at ops i op all.1 e
+
+-- a thread that waits for nothing may call what is built
+can_call : (x : Rank) (op : Op) → is_idle (thread_at x 0).waits ≡ true → is_built op ≡ true → is_enabled x (Call 0 op) ≡ true
+unfolding is_enabled
+can_call x op idle built = rw (idle, built) refl
+
+-- where nothing can be done, it is quiet
+pub none_first : (x : Rank) (scripts : AllScripts) → IsSoloJob scripts → Still x → NoNextCall x scripts → IsQuiet (x ∷ []) scripts
+none_first x scripts job still none = record {
+  still = λ c e. calm c.rank c.act e;
+  ended = ends;
+} where
+  call_there : (op : Op) → is_idle (thread_at x 0).waits ≡ true → next_op scripts 0 0 (thread_at x 0).calls ≡ Some op → is_enabled x (Call 0 op) ≡ true
+  call_there op idle e = can_call x op idle (built_at (script_of scripts 0 0) (thread_at x 0).calls op job.built e)
+
+  at_end : is_idle (thread_at x 0).waits ≡ true → (found : Option Op) → next_op scripts 0 0 (thread_at x 0).calls ≡ found → found ≡ None
+  at_end idle None e = refl
+  at_end idle (Some op) e = absurd (none op e (call_there op idle e))
+
+  ends : (r t : ℕ) → r < 1 → t < 8 → is_idle (thread_at (rank_at (x ∷ []) r) t).waits ≡ true → next_op scripts r t (thread_at (rank_at (x ∷ []) r) t).calls ≡ None
+  ends (suc r) t l m idle = absurd (omega (arith, l))
+  ends zero zero l m idle = at_end idle (next_op scripts 0 0 (thread_at x 0).calls) refl
+  ends zero (suc t) l m idle = others_end scripts (suc t) (omega arith) job.alone (thread_at x (suc t)).calls
+
+  calm : (r : ℕ) (a : Act) → is_call a ≡ false → may_happen (x ∷ []) (record { rank = r; act = a }) ≡ false
+  calm (suc r) a e = far x r a
+  calm zero (Call t op) e = absurd (true≢false e)
+  calm zero (Answer t) e = not_before _ (no_answer x t still.answers)
+  calm zero (Settle l) e = not_before _ (no_settle x l still.settles)
+  calm zero (MakeOffer l) e = not_before _ (no_offer x l still.offers)
+
+-- what follows for each that is found
+pub if_some : {A : Type 0} {P Q : A → Type 0} (a : Option A) → ((x : A) → P x → Q x) → IfSome a P → IfSome a Q
+if_some None f p = p
+if_some (Some x) f p = f x p
+
+pub if_none : {A P Q : Type 0} (a : Option A) → (P → Q) → IfNone a P → IfNone a Q
+if_none None f p = f p
+if_none (Some x) f p = p

@@ -1,0 +1,7 @@
+mod Sessions
+mod Draining
+mod Firsts
+mod Cuts
+mod Spelled
+mod Written
+mod Examples

@@ -1,0 +1,50 @@
+//! The output of the program: a journal, written to a sink.
+ghost use Rattle.std.specs.Prelude.{◌≡◌, ◌≤◌, true, false, is_ok, is_some, OnOk, OnErr};
+ghost use Rattle.io_edge.specs.Counts.{Rose};
+ghost use Rattle.io_edge.specs.Sink.{Takes, TakesFront};
+ghost use Rattle.history_text.specs.Text.{journal_text};
+
+use history_text::write_entry;
+use io_edge::{Failed, Sink};
+use mpi_base::Entry;
+use script_text::{Line, put};
+
+/// Writes all bytes, in as many pieces as the sink takes. After a fault a front of them, perhaps the
+/// empty one, has been written.
+pub(crate) fn write_all<K: Sink>(sink: &mut K, bytes: &[u8]) -> Result<(), Failed>
+    ensures whole { OnOk result (Takes (K.written sink.old) bytes.now (K.written sink.new)) }
+    ensures front { OnErr result (TakesFront (K.written sink.old) bytes.now (K.written sink.new)) }
+    ensures same_count { OnOk result (K.faults sink.new ≡ K.faults sink.old) }
+    ensures failed { OnErr result (Rose (K.faults sink.old) (K.faults sink.new)) }
+    ensures unfinished { OnErr result (K.finished sink.new ≡ false) }
+    ensures never_falls { K.faults sink.old ≤ K.faults sink.new }
+    ensures tells { is_some (K.written sink.new) ≡ is_some (K.written sink.old) }
+{
+    let mut rest = bytes;
+    while !rest.is_empty() {
+        let count = sink.write(rest)?;
+        let (_, behind) = rest.split_at(count);
+        rest = behind;
+    }
+    Ok(())
+}
+
+/// Writes each entry's line with a line feed, and finishes the sink. After a fault a front of that
+/// text, perhaps the empty one or all of it, has been written.
+pub(crate) fn write_journal<K: Sink>(sink: &mut K, entries: &[Entry]) -> Result<(), Failed>
+    ensures whole { OnOk result (Takes (K.written sink.old) (journal_text entries.now) (K.written sink.new)) }
+    ensures front { OnErr result (TakesFront (K.written sink.old) (journal_text entries.now) (K.written sink.new)) }
+    ensures same_count { OnOk result (K.faults sink.new ≡ K.faults sink.old) }
+    ensures failed { OnErr result (Rose (K.faults sink.old) (K.faults sink.new)) }
+    ensures finished { K.finished sink.new ≡ is_ok result }
+    ensures never_falls { K.faults sink.old ≤ K.faults sink.new }
+    ensures tells { is_some (K.written sink.new) ≡ is_some (K.written sink.old) }
+{
+    let mut line = Line::new();
+    for entry in entries {
+        write_entry(entry, &mut line);
+        put(&mut line, b"\n");
+        write_all(sink, line.as_slice())?;
+    }
+    sink.finish()
+}

@@ -1,0 +1,229 @@
+//! A session of the program: a script is read from a source, run to its end, and its journal written
+//! to a sink.
+ghost use Rattle.std.specs.Prelude.{◌≡◌, ◌≤◌, ℕ, List, [], ◌∷◌, true, false, not, IfOk, IfErr, OnOk, Some, ◌⊎◌};
+ghost use Rattle.io_edge.specs.Counts.{Rose};
+ghost use Rattle.io_edge.specs.Sink.{Takes, TakesFront};
+ghost use Rattle.history_text.specs.Text.{journal_text};
+ghost use Rattle.mpi_base.specs.declared.ops.Op.{Op};
+ghost use Rattle.mpi_law.specs.Closed.{is_closed};
+ghost use Rattle.mpi_law.specs.Registry.{IsRegistryRun, registry_opening};
+ghost use Rattle.mpi_protocol.specs.World.{opening};
+ghost use Rattle.mpi_protocol.specs.Run.{IsProtocolRun, end_of, events_of, calls_of};
+ghost use Rattle.mpi_protocol.specs.Order.{IsDrained, IsQuiet};
+ghost use Rattle.mpisess.specs.Job.{solo_setting};
+ghost use Rattle.mpisess.specs.Script.{IsSoloScript};
+ghost use Rattle.mpisess.specs.Session.{is_solo_command, status_number, is_usage, was_read, was_run, stops_there, fault_of, ReadsAll, TellsScript, TellsNoScript, called_scripts, registry_left, IsSoloRun};
+
+use crate::input::{InputError, read_input};
+use crate::output::write_journal;
+use crate::run::drain;
+use crate::script::{ScriptError, read_script};
+use io_edge::{Failed, Sink, Source};
+use mpi_base::OutOfMemory;
+use rank_core::Journal;
+use run_law::{quiet_ends_are_closed, quiet_ends_have_called_all, runs_are_registry_runs};
+use std::alloc::Global;
+
+/// How a session ended.
+#[derive(Clone, Copy, Debug, PartialEq, Eq, Drop)]
+pub enum Status {
+    /// The job was run, and its journal written.
+    Fine,
+    /// The words of the command line name no session.
+    Usage,
+    /// The input is no job that can be run.
+    BadJob,
+    /// The source failed.
+    ReadFault,
+    /// The job was run, and the sink failed.
+    WriteFault,
+    /// No memory was left.
+    Memory,
+}
+
+impl Status {
+    /// The number with which the process ends.
+    pub fn number(self) -> u8
+        ensures { result ≡ status_number self }
+    {
+        match self {
+            Status::Fine => 0,
+            Status::Usage => 1,
+            Status::BadJob => 2,
+            Status::ReadFault => 4,
+            Status::WriteFault => 5,
+            Status::Memory => 7,
+        }
+    }
+
+    /// What was wrong with the job.
+    fn fault(self) -> Option<JobFault>
+        ensures { result ≡ fault_of self }
+    {
+        match self {
+            Status::BadJob => Some(JobFault::NotBuilt),
+            _ => None,
+        }
+    }
+}
+
+/// What is wrong with a job.
+#[derive(Clone, Copy, Debug, PartialEq, Eq, Drop)]
+pub enum JobFault {
+    /// The input has more than 4,194,304 bytes, or the script more than 4,096 lines, or some line that
+    /// has bytes spells no operation that may be called yet.
+    NotBuilt,
+}
+
+/// What a session leaves.
+#[derive(Drop)]
+pub struct Done {
+    /// How it ended.
+    pub status: Status,
+    /// What was run.
+    pub journal: Journal,
+    /// What was wrong with the job.
+    pub fault: Option<JobFault>,
+}
+
+impl From<InputError> for Status {
+    ghost use Rattle.std.specs.Prelude.{◌≡◌};
+    ghost use Rattle.mpisess.specs.Session.{status_of_input};
+
+    ghost from_gives = { λ value status. status ≡ status_of_input value };
+
+    fn from(error: InputError) -> Status {
+        match error {
+            InputError::Fault => Status::ReadFault,
+            InputError::Memory => Status::Memory,
+        }
+    }
+}
+
+impl From<ScriptError> for Status {
+    ghost use Rattle.std.specs.Prelude.{◌≡◌};
+    ghost use Rattle.mpisess.specs.Session.{status_of_script};
+
+    ghost from_gives = { λ value status. status ≡ status_of_script value };
+
+    fn from(error: ScriptError) -> Status {
+        match error {
+            ScriptError::NotBuilt => Status::BadJob,
+            ScriptError::Memory => Status::Memory,
+        }
+    }
+}
+
+impl From<OutOfMemory> for Status {
+    ghost use Rattle.std.specs.Prelude.{◌≡◌};
+    ghost use Rattle.mpisess.specs.declared.session.Status.TheVariants.{Memory};
+
+    ghost from_gives = { λ _ status. status ≡ Memory };
+
+    fn from(_error: OutOfMemory) -> Status {
+        Status::Memory
+    }
+}
+
+/// A session of the program: reads a script for one rank, runs it to its end, and writes its journal,
+/// one line a step. The words are those of the command line behind the program's name.
+pub fn mpisess_calm<S: Source, K: Sink>(
+    alloc: Global,
+    words: &[String],
+    source: &mut S,
+    sink: &mut K,
+) -> Done
+    // The command line.
+    ensures usage { is_usage result.status ≡ not (is_solo_command words.now) }
+    // The job and the faults.
+    ensures bad_job { result.status ≡ Status.BadJob → TellsNoScript (S.left source.old) }
+    ensures fault { result.fault ≡ fault_of result.status }
+    ensures read_fault { result.status ≡ Status.ReadFault → Rose (S.faults source.old) (S.faults source.new) }
+    ensures write_fault { result.status ≡ Status.WriteFault → Rose (K.faults sink.old) (K.faults sink.new) }
+    ensures source_never_falls { S.faults source.old ≤ S.faults source.new }
+    ensures sink_never_falls { K.faults sink.old ≤ K.faults sink.new }
+    // What was read.
+    ensures reads_all { was_read result.status ≡ true → ReadsAll (S.left source.old) (S.left source.new) }
+    ensures reads_well { was_read result.status ≡ true → S.faults source.new ≡ S.faults source.old }
+    ensures unread { is_usage result.status ≡ true → source.new ≡ source.old }
+    // The journal.
+    ensures run { was_run result.status ≡ true → IsProtocolRun solo_setting result.journal.entries }
+    ensures registry { was_run result.status ≡ true → IsRegistryRun solo_setting (registry_opening solo_setting) (events_of result.journal.entries) }
+    ensures drained { was_run result.status ≡ true → IsDrained (called_scripts result.journal.entries) (opening solo_setting) result.journal.entries }
+    ensures quiet { was_run result.status ≡ true → IsQuiet (end_of solo_setting result.journal.entries) (called_scripts result.journal.entries) }
+    ensures closed { was_run result.status ≡ true → is_closed solo_setting (called_scripts result.journal.entries) (registry_left result.journal.entries) ≡ true }
+    ensures script { was_run result.status ≡ true → TellsScript (S.left source.old) (calls_of 0 0 result.journal.entries) }
+    ensures no_journal { was_run result.status ≡ false → result.journal.entries ≡ [] }
+    // What was written.
+    ensures written { result.status ≡ Status.Fine → Takes (K.written sink.old) (journal_text result.journal.entries) (K.written sink.new) }
+    ensures finished { result.status ≡ Status.Fine → K.finished sink.new ≡ true }
+    ensures writes_well { result.status ≡ Status.Fine → K.faults sink.new ≡ K.faults sink.old }
+    ensures front { result.status ≡ Status.WriteFault → TakesFront (K.written sink.old) (journal_text result.journal.entries) (K.written sink.new) }
+    ensures unfinished { result.status ≡ Status.WriteFault → K.finished sink.new ≡ false }
+    ensures unwritten { was_run result.status ≡ false → sink.new ≡ sink.old }
+    // Completeness.
+    ensures complete { (bytes : List ℕ) (ops : List Op) → is_solo_command words.now ≡ true → S.left source.old ≡ Some bytes → IsSoloScript bytes ops
+        → (Rose (S.faults source.old) (S.faults source.new) → ⊥) → (Rose (K.faults sink.old) (K.faults sink.new) → ⊥) → (result.status ≡ Status.Fine) ⊎ (result.status ≡ Status.Memory) }
+{
+    if !is_solo(words) {
+        return without_journal(alloc, Status::Usage);
+    }
+    let journal = match run_input(alloc, source) {
+        Ok(journal) => journal,
+        Err(status) => return without_journal(alloc, status),
+    };
+    let status = match write_journal(sink, journal.as_slice()) {
+        Ok(()) => Status::Fine,
+        Err(Failed) => Status::WriteFault,
+    };
+    Done {
+        status,
+        journal,
+        fault: None,
+    }
+}
+
+/// Whether the words are the one word `solo`.
+fn is_solo(words: &[String]) -> bool
+    ensures { result ≡ is_solo_command words.now }
+{
+    match words {
+        [word] => word.as_str() == "solo",
+        _ => false,
+    }
+}
+
+/// A session that ran nothing.
+fn without_journal(alloc: Global, status: Status) -> Done
+    ensures status { result.status ≡ status }
+    ensures journal { result.journal.entries ≡ [] }
+    ensures fault { result.fault ≡ fault_of status }
+{
+    Done {
+        status,
+        journal: Journal::none(alloc),
+        fault: status.fault(),
+    }
+}
+
+/// Reads a script and runs it to its end.
+fn run_input<S: Source>(alloc: Global, source: &mut S) -> Result<Journal, Status>
+    ensures run { IfOk result (λ journal. IsSoloRun journal.entries) }
+    ensures script { IfOk result (λ journal. TellsScript (S.left source.old) (calls_of 0 0 journal.entries)) }
+    ensures reads_all { OnOk result (ReadsAll (S.left source.old) (S.left source.new)) }
+    ensures reads_well { OnOk result (S.faults source.new ≡ S.faults source.old) }
+    ensures stops { IfErr result (λ status. stops_there status ≡ true) }
+    ensures bad_job { result ≡ Err Status.BadJob → TellsNoScript (S.left source.old) }
+    ensures bad_reads_all { result ≡ Err Status.BadJob → ReadsAll (S.left source.old) (S.left source.new) }
+    ensures bad_reads_well { result ≡ Err Status.BadJob → S.faults source.new ≡ S.faults source.old }
+    ensures read_fault { result ≡ Err Status.ReadFault → Rose (S.faults source.old) (S.faults source.new) }
+    ensures never_falls { S.faults source.old ≤ S.faults source.new }
+{
+    let bytes = read_input(alloc, source)?;
+    let scripts = read_script(alloc, &bytes)?;
+    let journal = drain(alloc, &scripts)?;
+    runs_are_registry_runs();
+    quiet_ends_are_closed();
+    quiet_ends_have_called_all();
+    Ok(journal)
+}

@@ -1,0 +1,141 @@
+//! Sessions of the program, as examples.
+ghost use Rattle.std.specs.Prelude.{◌≤◌};
+
+use crate::session::{Done, JobFault, Status, mpisess_calm};
+use io_edge::{MemorySink, MemorySource, SureSink, SureSource};
+use std::alloc::Global;
+use std::test::Fail;
+
+const SCRIPT: &[u8] = b"session s\npset s mpi://SELF -> g\ncreate g \"a\" -> c\n";
+
+const JOURNAL: &[u8] = b"\
+0 call 0 session s => ok
+0 call 0 pset s mpi://SELF -> g => group [0]
+0 call 0 create g \"a\" -> c
+0 settle from \"a\" [0] # ready
+0 offer from \"a\" [0] # own
+0 settle from \"a\" [0] # pick ctx=1
+0 answer 0 => comm ctx=1 rank=0 size=1
+";
+
+/// The words of a command line, given with one space between them.
+fn words(alloc: Global, line: &str) -> Result<Vec<String>, Fail> {
+    let mut words = Vec::new(alloc);
+    for word in line.split_whitespace() {
+        words.push(word.to_string(alloc)?)?;
+    }
+    Ok(words)
+}
+
+/// A sink in memory with ample room, of which one call may fail.
+fn sink(alloc: Global, piece: usize, fails: Option<u64>) -> Result<MemorySink, Fail>
+    requires { 1 ≤ piece }
+{
+    let mut failing = Vec::new(alloc);
+    if let Some(number) = fails {
+        failing.push(number)?;
+    }
+    let mut sink = MemorySink::new(alloc, piece, failing);
+    sink.reserve(100_000)?;
+    Ok(sink)
+}
+
+/// The command `solo` with this input and this sink.
+fn solo(alloc: Global, input: &[u8], sink: &mut MemorySink) -> Result<Done, Fail> {
+    let mut source = SureSource::new(input.to_vec(alloc)?, 4);
+    Ok(mpisess_calm(alloc, &words(alloc, "solo")?, &mut source, sink))
+}
+
+#[test]
+fn the_example_gives_its_seven_lines(rt: HostRuntime) -> Result<(), Fail> {
+    let mut sink = sink(rt.alloc(), 7, None)?;
+    let done = solo(rt.alloc(), SCRIPT, &mut sink)?;
+    assert_eq!(rt; done.status, Status::Fine);
+    assert_eq!(rt; done.fault, None);
+    assert_eq!(rt; done.journal.len(), 7);
+    assert_eq!(rt; sink.bytes(), JOURNAL);
+    assert!(rt; sink.is_finished());
+    Ok(())
+}
+
+#[test]
+fn an_empty_script_gives_no_line(rt: HostRuntime) -> Result<(), Fail> {
+    let mut sink = sink(rt.alloc(), 7, None)?;
+    assert_eq!(rt; solo(rt.alloc(), b"", &mut sink)?.status, Status::Fine);
+    assert_eq!(rt; sink.bytes(), b"".as_slice());
+    assert!(rt; sink.is_finished());
+    Ok(())
+}
+
+#[test]
+fn the_sixty_fourth_creation_finds_no_context(rt: HostRuntime) -> Result<(), Fail> {
+    let alloc = rt.alloc();
+    let mut script = format!(in alloc; "session s\npset s mpi://SELF -> g\n")?;
+    let mut journal = format!(in alloc;
+        "0 call 0 session s => ok\n0 call 0 pset s mpi://SELF -> g => group [0]\n"
+    )?;
+    for number in 1..=64 {
+        script.push_str(format!(in alloc; "create g \"a\" -> c{number}\n")?.as_str())?;
+        journal.push_str(format!(in alloc;
+            "0 call 0 create g \"a\" -> c{number}\n0 settle from \"a\" [0] # ready\n0 offer from \"a\" [0] # own\n"
+        )?.as_str())?;
+        if number < 64 {
+            journal.push_str(format!(in alloc;
+                "0 settle from \"a\" [0] # pick ctx={number}\n0 answer 0 => comm ctx={number} rank=0 size=1\n"
+            )?.as_str())?;
+        }
+    }
+    journal.push_str("0 settle from \"a\" [0] # pick exhausted\n0 answer 0 => err EXHAUSTED\n")?;
+    let mut sink = sink(alloc, 1_000, None)?;
+    assert_eq!(rt;
+        solo(alloc, script.as_bytes(), &mut sink)?.status,
+        Status::Fine
+    );
+    assert_eq!(rt; sink.bytes(), journal.as_bytes());
+    Ok(())
+}
+
+#[test]
+fn a_source_that_fails_gives_nothing(rt: HostRuntime) -> Result<(), Fail> {
+    let alloc = rt.alloc();
+    let mut source = MemorySource::new(SCRIPT.to_vec(alloc)?, 4, vec![in alloc; 1]?);
+    let mut sink = sink(alloc, 7, None)?;
+    let done = mpisess_calm(alloc, &words(alloc, "solo")?, &mut source, &mut sink);
+    assert_eq!(rt; done.status.number(), 4);
+    assert_eq!(rt; done.journal.len(), 0);
+    assert_eq!(rt; sink.bytes(), b"".as_slice());
+    Ok(())
+}
+
+#[test]
+fn a_sink_that_fails_has_a_front(rt: HostRuntime) -> Result<(), Fail> {
+    let mut sink = sink(rt.alloc(), 7, Some(2))?;
+    let done = solo(rt.alloc(), SCRIPT, &mut sink)?;
+    assert_eq!(rt; done.status.number(), 5);
+    assert_eq!(rt; done.journal.len(), 7);
+    assert_eq!(rt; sink.bytes(), b"0 call ".as_slice());
+    Ok(())
+}
+
+#[test]
+fn other_words_are_no_command(rt: HostRuntime) -> Result<(), Fail> {
+    let alloc = rt.alloc();
+    for line in ["walk", "", "solo solo"] {
+        let mut source = SureSource::new(SCRIPT.to_vec(alloc)?, 4);
+        let mut sink = SureSink::new();
+        let done = mpisess_calm(alloc, &words(alloc, line)?, &mut source, &mut sink);
+        assert_eq!(rt; done.status.number(), 1);
+        assert_eq!(rt; done.fault, None);
+    }
+    Ok(())
+}
+
+#[test]
+fn a_line_that_is_not_built_is_a_bad_job(rt: HostRuntime) -> Result<(), Fail> {
+    let mut sink = sink(rt.alloc(), 7, None)?;
+    let done = solo(rt.alloc(), b"session s\nunion g g -> h\n", &mut sink)?;
+    assert_eq!(rt; done.status.number(), 2);
+    assert_eq!(rt; done.fault, Some(JobFault::NotBuilt));
+    assert_eq!(rt; sink.bytes(), b"".as_slice());
+    Ok(())
+}

@@ -1,0 +1,7 @@
+pub mod FrontFacts
+pub mod NameFacts
+pub mod GroupFacts
+pub mod AnswerFacts
+pub mod OfferFacts
+pub mod RoundFacts
+pub mod NextFacts

@@ -1,0 +1,194 @@
+-- The least key that passes a test, and the next step of a kind.
+use Rattle.std.proofs.Common.{◌≡◌, ℕ, ◌+◌, ◌<◌, ◌≤◌, ◌==◌, ◌&&◌, ◌||◌, Bool, true, false, if◌then◌else◌, List, [], ◌∷◌, ◌++◌, map, take, get_or, length, Option, Some, None, refl, sym, ◌∙◌, ap, subst, arith}
+use Rattle.std.specs.Prelude.{nat_lt, find, option_map, IfSome}
+use Rattle.std.specs.Option.{IfNone}
+use Rattle.std.specs.List.{AllByRecursion, list_any, range_with_len}
+use Rattle.std.proofs.lemmas.Bool.Decides.{nat_tests}
+use Rattle.std.proofs.lemmas.List.{map_more}
+use Rattle.mpi_base.specs.declared.keys.Key.{Key}
+use Rattle.mpi_base.specs.Keys.{same_key, key_before}
+use Rattle.mpi_base.proofs.KeyFacts.{same_key_is, key_before_trans, key_before_irreflexive}
+use Rattle.mpi_base.specs.declared.entries.Act.{Act}
+use Rattle.mpi_base.specs.declared.entries.Act.TheVariants.{Call, Answer, Offer as MakeOffer, Settle}
+use Rattle.mpi_law.specs.declared.setting.TheConstants.{THREADS}
+use Rattle.mpi_protocol.specs.declared.rows.CreationRow.{CreationRow}
+use Rattle.mpi_protocol.specs.Rank.{Rank, Offer, stage_of}
+use Rattle.mpi_protocol.specs.Agreement.{has_offer, is_ready}
+use Rattle.mpi_protocol.specs.Step.{is_enabled, is_due}
+use Rattle.rank_core.specs.declared.next.StepKind.TheVariants as kind
+use Rattle.rank_core.specs.declared.offers.OfferRow.{OfferRow}
+use Rattle.rank_core.specs.Offers.{offer_of}
+use Rattle.rank_core.specs.Next.{is_above, is_answer, is_offer, is_settle, act_before, IsNext, NoneNext, lesser, IsLeastKey}
+use Rattle.rank_core.proofs.AnswerFacts.{answer-thread}
+use Rattle.rank_core.proofs.OfferFacts.{find-range_found, find-range_none}
+
+-- one more element of which it holds
+all-push : {X : Type 0} (P : X → Type 0) (xs : List X) (x : X) → AllByRecursion P xs → P x → AllByRecursion P (xs ++ x ∷ [])
+all-push P [] x a p = (p, tt)
+all-push P (y ∷ xs) x a p = (a.0, all-push P xs x a.1 p)
+
+-- what holds of each element, weakened
+all-weaker : {X : Type 0} (P Q : X → Type 0) → ((x : X) → P x → Q x) → (xs : List X) → AllByRecursion P xs → AllByRecursion Q xs
+all-weaker P Q f [] a = tt
+all-weaker P Q f (x ∷ xs) a = (f x a.0, all-weaker P Q f xs a.1)
+
+-- a key that comes before another one is not after what does not come before that one
+before-less : (k l m : Key) → key_before k l ≡ true → key_before m l ≡ false → key_before m k ≡ false
+before-less k l m kl ml = go (key_before m k) refl
+  where
+    go : (b : Bool) → key_before m k ≡ b → b ≡ false
+    go true e = let t = key_before_trans m k l e kl in absurd (cc)
+    go false e = refl
+
+-- the least key with one more
+pub IsLeastKey-more : (test : Key → Bool) (keys : List Key) (o : Option Key) (k : Key) → IsLeastKey test keys o → IsLeastKey test (keys ++ k ∷ []) (if test k then lesser k o else o)
+IsLeastKey-more test keys None k h = go (test k) refl
+  where
+    go : (b : Bool) → test k ≡ b → IsLeastKey test (keys ++ k ∷ []) (if b then Some k else None)
+    go true e = (
+      e,
+      all-push (λ m. test m ≡ true → key_before m k ≡ false) keys k
+          (all-weaker (λ m. test m ≡ false) (λ m. test m ≡ true → key_before m k ≡ false) (λ m f t. absurd (cc (f, t))) keys h) (λ t. key_before_irreflexive k),
+    )
+    go false e = all-push (λ m. test m ≡ false) keys k h e
+IsLeastKey-more test keys (Some l) k h = go (test k) refl (key_before k l) refl
+  where
+    go : (b : Bool) → test k ≡ b → (c : Bool) → key_before k l ≡ c → IsLeastKey test (keys ++ k ∷ []) (if b then (if c then Some k else Some l) else Some l)
+    go true e true f = (
+      e,
+      all-push (λ m. test m ≡ true → key_before m k ≡ false) keys k
+          (all-weaker (λ m. test m ≡ true → key_before m l ≡ false) (λ m. test m ≡ true → key_before m k ≡ false) (λ m n t. before-less k l m f (n t)) keys h.1) (λ t. key_before_irreflexive k),
+    )
+    go true e false f = (h.0, all-push (λ m. test m ≡ true → key_before m l ≡ false) keys k h.1 (λ t. f))
+    go false e c f = (h.0, all-push (λ m. test m ≡ true → key_before m l ≡ false) keys k h.1 (λ t. absurd (cc (e, t))))
+
+-- the least key of rows with one more
+pub IsLeastKey-rows : {R : Type 0} (key_of : R → Key) (test : Key → Bool) (rows : List R) (i : ℕ) (row : R) (least r : Option Key) (counts : Bool)
+    → i < length rows → row ≡ get_or rows i row → IsLeastKey test (map key_of (take i rows)) least → counts ≡ test (key_of row) → r ≡ (if counts then lesser (key_of row) least else least)
+    → IsLeastKey test (map key_of (take (i + 1) rows)) r
+IsLeastKey-rows {R} key_of test rows i row least r counts inside is h e f =
+    let more : map key_of (take (i + 1) rows) ≡ map key_of (take i rows) ++ key_of row ∷ [] =
+    map_more key_of rows i row inside ∙ ap (λ (x : R). map key_of (take i rows) ++ key_of x ∷ []) (sym is) in
+    rw (f, e, more) (IsLeastKey-more test (map key_of (take i rows)) least (key_of row) h)
+
+-- the keys of offers are those of their rows
+pub keys-rows : {w : ℕ} (contexts : ℕ) (rows : List (OfferRow w)) → map (λ (o : Offer). o.key) (map (offer_of contexts) rows) ≡ map (λ (r : OfferRow w). r.key) rows
+keys-rows contexts [] = refl
+keys-rows contexts (r ∷ rows) = ap (λ (ks : List Key). r.key ∷ ks) (keys-rows contexts rows)
+
+-- what holds of each key with an offer holds of a key that has one
+offered-key : (P : Key → Type 0) (offers : List Offer) (key : Key) (place : ℕ) → AllByRecursion P (map (λ o. o.key) offers) → has_offer offers key place ≡ true → P key
+offered-key P [] key place a h = absurd (cc)
+offered-key P (o ∷ offers) key place a h = go (same_key o.key key && (o.place == place)) refl h (offered-key P offers key place a.1)
+  where
+    go : (b : Bool) → (same_key o.key key && (o.place == place)) ≡ b → (b || list_any (λ (o : Offer). same_key o.key key && (o.place == place)) offers) ≡ true
+        → (has_offer offers key place ≡ true → P key) → P key
+    go true e k ih = subst P (same_key_is o.key key (grind (arith, e))) a.0
+    go false e k ih = ih k
+
+-- what holds of each key that is open holds of a key that has a stage
+opened-key : (P : Key → Type 0) (opened : List CreationRow) (key : Key) → AllByRecursion P (map (λ o. o.key) opened) → is_due (stage_of opened key) ≡ true → P key
+opened-key P [] key a h = absurd (cc)
+opened-key P (o ∷ opened) key a h = go (same_key o.key key) refl (opened-key P opened key a.1)
+  where
+    go : (b : Bool) → same_key o.key key ≡ b → (is_due (stage_of opened key) ≡ true → P key) → P key
+    go true e ih = subst P (same_key_is o.key key e) a.0
+    go false e ih = ih (rw e at h)
+
+-- a settle that is enabled is of a key that has an offer
+settle-key : (P : Key → Type 0) (x : Rank) (key : Key) → AllByRecursion P (map (λ o. o.key) x.gathered) → is_enabled x (Settle key) ≡ true → P key
+unfolding is_enabled is_ready
+settle-key P x key a e = go key.members refl
+  where
+    go : (ms : List ℕ) → key.members ≡ ms → P key
+    go [] m = let f = rw m at e in absurd (cc)
+    go (r ∷ ms) m = let f = rw m at e in offered-key P x.gathered key 0 a (grind (arith, nat_tests, f))
+
+-- an offer that is enabled is of a key that is open
+offer-key : (P : Key → Type 0) (x : Rank) (key : Key) → AllByRecursion P (map (λ o. o.key) x.opened) → is_enabled x (MakeOffer key) ≡ true → P key
+unfolding is_enabled
+offer-key P x key a e = opened-key P x.opened key a e
+
+module _ (x : Rank) (after : Option Act) where
+  -- the first thread that passes is the next answer
+  pub next_answer-found : (t : ℕ) → find (λ t. is_above after (Answer t) && is_enabled x (Answer t)) (range_with_len 0 THREADS) ≡ Some t → IsNext x kind.Answer after (Answer t)
+  next_answer-found t e =
+      let found = find-range_found (λ t. is_above after (Answer t) && is_enabled x (Answer t)) 0 THREADS t e in
+      record { kind = refl; enabled = grind (arith, found.2); above = grind (arith, found.2); least = least found.3 }
+    where
+      least : ((d : ℕ) → 0 ≤ d → d < t → (is_above after (Answer d) && is_enabled x (Answer d)) ≡ false)
+          → (b : Act) → is_answer b ≡ true → is_enabled x b ≡ true → is_above after b ≡ true → act_before b (Answer t) ≡ false
+      least below (Call u op) k en ab = absurd (cc)
+      least below (Answer u) k en ab = go (nat_lt u t) refl
+        where
+          go : (b : Bool) → nat_lt u t ≡ b → b ≡ false
+          go true lt = let f = below u (omega arith) (grind (arith, nat_tests, lt)) in grind (arith, f, en, ab)
+          go false lt = refl
+      least below (MakeOffer l) k en ab = absurd (cc)
+      least below (Settle l) k en ab = absurd (cc)
+
+  -- where no thread passes, there is no next answer
+  pub next_answer-none : find (λ t. is_above after (Answer t) && is_enabled x (Answer t)) (range_with_len 0 THREADS) ≡ None → NoneNext x kind.Answer after
+  next_answer-none e (Call u op) k en = absurd (cc)
+  next_answer-none e (Answer u) k en =
+      let f = find-range_none (λ t. is_above after (Answer t) && is_enabled x (Answer t)) 0 THREADS e u (omega arith) (answer-thread x u en) in grind (arith, f, en)
+  next_answer-none e (MakeOffer l) k en = absurd (cc)
+  next_answer-none e (Settle l) k en = absurd (cc)
+
+  -- the least key that passes is that of the next settle
+  pub next_settle-found : (key : Key) → IsLeastKey (λ k. is_above after (Settle k) && is_enabled x (Settle k)) (map (λ o. o.key) x.gathered) (Some key) → IsNext x kind.Settle after (Settle key)
+  next_settle-found key h =
+      let passes = h.0 in record { kind = refl; enabled = grind (arith, passes); above = grind (arith, passes); least = least }
+    where
+      least : (b : Act) → is_settle b ≡ true → is_enabled x b ≡ true → is_above after b ≡ true → act_before b (Settle key) ≡ false
+      least (Call u op) k en ab = absurd (cc)
+      least (Answer u) k en ab = absurd (cc)
+      least (MakeOffer l) k en ab = absurd (cc)
+      least (Settle l) k en ab =
+          settle-key (λ m. (is_above after (Settle m) && is_enabled x (Settle m)) ≡ true → key_before m key ≡ false) x l h.1 en (grind (arith, en, ab))
+
+  -- where no key passes, there is no next settle
+  pub next_settle-none : IsLeastKey (λ k. is_above after (Settle k) && is_enabled x (Settle k)) (map (λ o. o.key) x.gathered) None → NoneNext x kind.Settle after
+  next_settle-none h (Call u op) k en = absurd (cc)
+  next_settle-none h (Answer u) k en = absurd (cc)
+  next_settle-none h (MakeOffer l) k en = absurd (cc)
+  next_settle-none h (Settle l) k en =
+      let f = settle-key (λ m. (is_above after (Settle m) && is_enabled x (Settle m)) ≡ false) x l h en in grind (arith, f, en)
+
+  -- the least key that passes is that of the next offer
+  pub next_offer-found : (key : Key) → IsLeastKey (λ k. is_above after (MakeOffer k) && is_enabled x (MakeOffer k)) (map (λ o. o.key) x.opened) (Some key) → IsNext x kind.Offer after (MakeOffer key)
+  next_offer-found key h =
+      let passes = h.0 in record { kind = refl; enabled = grind (arith, passes); above = grind (arith, passes); least = least }
+    where
+      least : (b : Act) → is_offer b ≡ true → is_enabled x b ≡ true → is_above after b ≡ true → act_before b (MakeOffer key) ≡ false
+      least (Call u op) k en ab = absurd (cc)
+      least (Answer u) k en ab = absurd (cc)
+      least (MakeOffer l) k en ab =
+          offer-key (λ m. (is_above after (MakeOffer m) && is_enabled x (MakeOffer m)) ≡ true → key_before m key ≡ false) x l h.1 en (grind (arith, en, ab))
+      least (Settle l) k en ab = absurd (cc)
+
+  -- where no key passes, there is no next offer
+  pub next_offer-none : IsLeastKey (λ k. is_above after (MakeOffer k) && is_enabled x (MakeOffer k)) (map (λ o. o.key) x.opened) None → NoneNext x kind.Offer after
+  next_offer-none h (Call u op) k en = absurd (cc)
+  next_offer-none h (Answer u) k en = absurd (cc)
+  next_offer-none h (MakeOffer l) k en =
+      let f = offer-key (λ m. (is_above after (MakeOffer m) && is_enabled x (MakeOffer m)) ≡ false) x l h en in grind (arith, f, en)
+  next_offer-none h (Settle l) k en = absurd (cc)
+
+  -- what comes of the first thread that passes
+  pub next_answer-result : (o : Option ℕ) (r : Option Act) → o ≡ find (λ t. is_above after (Answer t) && is_enabled x (Answer t)) (range_with_len 0 THREADS) → r ≡ option_map (λ t. Answer t) o
+      → IfSome r (IsNext x kind.Answer after) × IfNone r (NoneNext x kind.Answer after)
+  next_answer-result None r e m = rw m (tt, next_answer-none (sym e))
+  next_answer-result (Some t) r e m = rw m (next_answer-found t (sym e), tt)
+
+  -- what comes of the least key that may be settled
+  pub next_settle-result : (o : Option Key) (r : Option Act) → IsLeastKey (λ k. is_above after (Settle k) && is_enabled x (Settle k)) (map (λ o. o.key) x.gathered) o → r ≡ option_map (λ k. Settle k) o
+      → IfSome r (IsNext x kind.Settle after) × IfNone r (NoneNext x kind.Settle after)
+  next_settle-result None r e m = rw m (tt, next_settle-none e)
+  next_settle-result (Some k) r e m = rw m (next_settle-found k e, tt)
+
+  -- what comes of the least key that may be offered for
+  pub next_offer-result : (o : Option Key) (r : Option Act) → IsLeastKey (λ k. is_above after (MakeOffer k) && is_enabled x (MakeOffer k)) (map (λ o. o.key) x.opened) o → r ≡ option_map (λ k. MakeOffer k) o
+      → IfSome r (IsNext x kind.Offer after) × IfNone r (NoneNext x kind.Offer after)
+  next_offer-result None r e m = rw m (tt, next_offer-none e)
+  next_offer-result (Some k) r e m = rw m (next_offer-found k e, tt)

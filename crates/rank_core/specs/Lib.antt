@@ -1,0 +1,11 @@
+pub mod Held
+pub mod Fronts
+pub mod Offers
+pub mod Gather
+pub mod Limits
+pub mod Rooms
+pub mod Effects
+pub mod Entries
+pub mod Ends
+pub mod Verdicts
+pub mod Next

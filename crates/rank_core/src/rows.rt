@@ -1,0 +1,114 @@
+//! Changes of rows.
+ghost use Rattle.std.specs.Prelude.{◌≡◌, ◌≤◌, ◌+◌, ◌-◌, ◌^◌, ◌<◌, ◌∷◌, ◌++◌, [], get_or, set, length};
+ghost use Rattle.mpi_law.specs.Local.{bind as names_with, rebind, unbind};
+ghost use Rattle.mpi_protocol.specs.Rank.{set_stage as staged_rows, close_creation as closed_rows, drop_round as dropped_rounds, set_round as round_put, idle_thread};
+ghost use Rattle.rank_core.specs.Rooms.{room_of};
+
+use mpi_base::{Key, Name};
+use mpi_law::{Bound, NameRow};
+use mpi_protocol::{CommRow, CreationRow, RoundRow, Stage, ThreadRow, Waits};
+use std::mem;
+
+/// Moves a creation on to a stage.
+pub(crate) fn set_stage(opened: &mut Vec<CreationRow>, key: &Key, stage: Stage)
+    ensures rows { opened.new.items ≡ staged_rows opened.old.items key.now stage }
+    ensures room { room_of opened.old ≤ room_of opened.new }
+{
+    for row in opened.iter_mut() {
+        if row.key.is_same(key) {
+            row.stage = stage;
+        }
+    }
+}
+
+/// Takes a creation out.
+pub(crate) fn close_creation(opened: &mut Vec<CreationRow>, key: &Key)
+    ensures rows { opened.new.items ≡ closed_rows opened.old.items key.now }
+    ensures room { room_of opened.old ≤ room_of opened.new }
+{
+    opened.retain(|row| !row.key.is_same(key));
+}
+
+/// Takes out the round of a creation's gather.
+pub(crate) fn drop_round(rounds: &mut Vec<RoundRow>, key: &Key)
+    ensures rows { rounds.new.items ≡ dropped_rounds rounds.old.items key.now }
+    ensures room { room_of rounds.old ≤ room_of rounds.new }
+{
+    rounds.retain(|row| !row.key.is_same(key));
+}
+
+/// Puts the round of a creation's gather in place of any other. There is room for it.
+pub(crate) fn set_round(rounds: &mut Vec<RoundRow>, key: &Key, round: u64)
+    requires { 1 ≤ room_of rounds.old }
+    ensures rows { rounds.new.items ≡ round_put rounds.old.items key.now round }
+    ensures room { room_of rounds.old ≤ room_of rounds.new + 1 }
+{
+    drop_round(rounds, key);
+    rounds.push_reserved(RoundRow {
+        key: key.copy(),
+        round,
+    });
+}
+
+/// Adds a communicator of a key's members. There is room for it.
+pub(crate) fn add_comm(comms: &mut Vec<CommRow>, ctx: u16, key: &Key, session: u64)
+    requires { 1 ≤ room_of comms.old }
+    ensures rows { comms.new.items ≡ comms.old.items ++ record { ctx = ctx; members = key.now.members; session = session } ∷ [] }
+    ensures room { room_of comms.old ≤ room_of comms.new + 1 }
+{
+    comms.push_reserved(CommRow {
+        ctx,
+        members: key.members.copy(),
+        session,
+    });
+}
+
+/// Binds a name. There is room for it.
+pub(crate) fn bind(names: &mut Vec<NameRow>, name: Name, bound: Bound)
+    requires { 1 ≤ room_of names.old }
+    ensures rows { names.new.items ≡ names_with names.old.items name bound }
+    ensures room { room_of names.old ≤ room_of names.new + 1 }
+{
+    names.push_reserved(NameRow { name, bound });
+}
+
+/// Binds a name that is there to a communicator.
+pub(crate) fn bind_comm(names: &mut Vec<NameRow>, name: &Name, ctx: u16, session: u64)
+    ensures rows { names.new.items ≡ rebind names.old.items name.now (Bound.Comm ctx session) }
+    ensures room { room_of names.old ≤ room_of names.new }
+{
+    for row in names.iter_mut() {
+        if row.name == *name {
+            row.bound = Bound::Comm { comm: ctx, session };
+        }
+    }
+}
+
+/// Frees a name.
+pub(crate) fn free_name(names: &mut Vec<NameRow>, name: &Name)
+    ensures rows { names.new.items ≡ unbind names.old.items name.now }
+    ensures room { room_of names.old ≤ room_of names.new }
+{
+    names.retain(|row| row.name != *name);
+}
+
+/// What the thread waits for; it waits for nothing from now on.
+pub(crate) fn take_waits(threads: &mut Vec<ThreadRow>, thread: u8) -> Waits
+    requires { thread < length threads.old.items }
+    ensures value { result ≡ (get_or threads.old.items thread idle_thread).waits }
+    ensures rows { threads.new.items ≡ set threads.old.items thread (record { calls = (get_or threads.old.items thread idle_thread).calls; waits = Waits.Nothing }) }
+{
+    let row = &mut threads[thread as usize];
+    mem::replace(&mut row.waits, Waits::Nothing)
+}
+
+/// Counts one more call of a thread, which waits for this from now on.
+pub(crate) fn count_call(threads: &mut Vec<ThreadRow>, thread: u8, waits: Waits)
+    requires thread { thread < length threads.old.items }
+    requires count { (get_or threads.old.items thread idle_thread).calls < 2 ^ 64 - 1 }
+    ensures { threads.new.items ≡ set threads.old.items thread (record { calls = (get_or threads.old.items thread idle_thread).calls + 1; waits = waits }) }
+{
+    let row = &mut threads[thread as usize];
+    row.calls += 1;
+    row.waits = waits;
+}

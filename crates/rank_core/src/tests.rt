@@ -1,0 +1,256 @@
+//! Worked examples.
+
+ghost use Rattle.std.specs.Prelude.{◌≤◌};
+
+use crate::journal::Journal;
+use crate::next::StepKind;
+use crate::rank::RankState;
+use mpi_base::{
+    Act, Choice, Entry, ErrClass, Key, Kind, Members, Name, Op, OutOfMemory, PsetName, Reply, Said,
+    StringTag,
+};
+use mpi_law::{Setting, THREADS};
+use std::alloc::Global;
+use std::process::Abort;
+use std::test::Fail;
+
+fn name(rt: &impl Abort, text: &[u8]) -> Name {
+    Name::new(text).expect(rt, "a name")
+}
+
+fn tag(rt: &impl Abort, text: &[u8]) -> StringTag {
+    StringTag::new(text).expect(rt, "a tag")
+}
+
+fn session(rt: &impl Abort, target: &[u8]) -> Op {
+    Op::Session(name(rt, target))
+}
+
+fn self_group(rt: &impl Abort, session: &[u8], target: &[u8]) -> Op {
+    let set = PsetName::new(b"mpi://SELF").expect(rt, "a process set");
+    Op::Pset(name(rt, session), set, name(rt, target))
+}
+
+fn create(rt: &impl Abort, group: &[u8], text: &[u8], target: &[u8]) -> Op {
+    Op::Create(name(rt, group), tag(rt, text), name(rt, target))
+}
+
+/// The key of a creation from the group of one rank.
+fn key(rt: &impl Abort, text: &[u8], rank: u16) -> Key {
+    Key {
+        parent: 0,
+        kind: Kind::From,
+        number: 0,
+        tag: tag(rt, text),
+        members: group(rank),
+    }
+}
+
+fn group(rank: u16) -> Members {
+    let mut members = Members::none();
+    let _ = members.push(rank);
+    members
+}
+
+fn call(
+    rt: &impl Abort,
+    rank: &mut RankState<1>,
+    thread: u8,
+    op: Op,
+) -> Result<Option<Reply>, OutOfMemory> {
+    rank.reserve()?;
+    let act = Act::Call {
+        thread,
+        op: op.copy(),
+    };
+    assert!(rt; thread < THREADS);
+    assert!(rt; rank.enabled(&act));
+    assert!(rt; rank.sessions() < 1000);
+    assert!(rt; rank.calls(thread) < 1000);
+    Ok(rank.call(thread, op).reply)
+}
+
+fn answer(
+    rt: &impl Abort,
+    rank: &mut RankState<1>,
+    thread: u8,
+) -> Result<Option<Reply>, OutOfMemory> {
+    rank.reserve()?;
+    assert!(rt; rank.enabled(&Act::Answer { thread }));
+    Ok(rank.answer(thread).reply)
+}
+
+fn offer(rt: &impl Abort, rank: &mut RankState<1>, key: &Key) -> Result<Option<Said>, OutOfMemory> {
+    rank.reserve()?;
+    assert!(rt; rank.enabled(&Act::Offer { key: key.copy() }));
+    let said = rank.offer(key.copy()).said;
+    assert!(rt; rank.is_offered(key));
+    Ok(said)
+}
+
+fn settle(
+    rt: &impl Abort,
+    rank: &mut RankState<1>,
+    key: &Key,
+) -> Result<Option<Said>, OutOfMemory> {
+    rank.reserve()?;
+    assert!(rt; rank.enabled(&Act::Settle { key: key.copy() }));
+    assert!(rt; rank.round(key) < 1000);
+    Ok(rank.settle(key.copy()).said)
+}
+
+/// A rank alone, with a session `s` and its group `g`.
+fn alone(rt: &impl Abort, alloc: Global, contexts: u16) -> Result<RankState<1>, OutOfMemory>
+    requires { (1 ≤ contexts) × (contexts ≤ 63) }
+{
+    let mut rank = RankState::start(alloc, 0, &Setting { ranks: 1, contexts })?;
+    assert!(rt; call(rt, &mut rank, 0, session(rt, b"s"))? == Some(Reply::Fine));
+    let reply = call(rt, &mut rank, 0, self_group(rt, b"s", b"g"))?;
+    assert!(rt; reply == Some(Reply::Group(group(0))));
+    Ok(rank)
+}
+
+fn refused(class: ErrClass) -> Option<Reply> {
+    Some(Reply::Refused(class))
+}
+
+#[test]
+fn refusals(rt: HostRuntime) -> Result<(), Fail> {
+    let mut rank = alone(&rt, rt.alloc(), 63)?;
+    let reply = call(&rt, &mut rank, 0, session(&rt, b"s"))?;
+    assert!(rt; reply == refused(ErrClass::Arg));
+    let reply = call(&rt, &mut rank, 0, self_group(&rt, b"g", b"h"))?;
+    assert!(rt; reply == refused(ErrClass::Session));
+    let reply = call(&rt, &mut rank, 0, create(&rt, b"s", b"a", b"c"))?;
+    assert!(rt; reply == refused(ErrClass::Group));
+    let reply = call(&rt, &mut rank, 0, create(&rt, b"g", b"a", b"s"))?;
+    assert!(rt; reply == refused(ErrClass::Arg));
+    assert!(rt; rank.sessions() == 1);
+    Ok(())
+}
+
+#[test]
+fn one_communicator(rt: HostRuntime) -> Result<(), Fail> {
+    let mut rank = alone(&rt, rt.alloc(), 63)?;
+    let a = key(&rt, b"a", 0);
+    let reply = call(&rt, &mut rank, 0, create(&rt, b"g", b"a", b"c"))?;
+    assert!(rt; reply.is_none());
+    let reply = call(&rt, &mut rank, 1, create(&rt, b"g", b"a", b"d"))?;
+    assert!(rt; reply == refused(ErrClass::Busy));
+    let reply = call(&rt, &mut rank, 1, create(&rt, b"g", b"a", b"c"))?;
+    assert!(rt; reply == refused(ErrClass::Arg));
+    assert!(rt; settle(&rt, &mut rank, &a)? == Some(Said::Ready));
+    assert!(rt; offer(&rt, &mut rank, &a)? == Some(Said::Own));
+    assert!(rt; settle(&rt, &mut rank, &a)? == Some(Said::Picked(1)));
+    let reply = answer(&rt, &mut rank, 0)?;
+    assert!(rt;
+        reply
+            == Some(Reply::Comm {
+                ctx: 1,
+                rank: 0,
+                size: 1
+            })
+    );
+    let reply = call(&rt, &mut rank, 0, session(&rt, b"c"))?;
+    assert!(rt; reply == refused(ErrClass::Arg));
+    Ok(())
+}
+
+#[test]
+fn no_context_left(rt: HostRuntime) -> Result<(), Fail> {
+    let mut rank = alone(&rt, rt.alloc(), 1)?;
+    for (text, said) in [(b"a", Said::Picked(1)), (b"b", Said::Exhausted)] {
+        let next = key(&rt, text, 0);
+        let reply = call(&rt, &mut rank, 0, create(&rt, b"g", text, text))?;
+        assert!(rt; reply.is_none());
+        assert!(rt; settle(&rt, &mut rank, &next)? == Some(Said::Ready));
+        assert!(rt; offer(&rt, &mut rank, &next)? == Some(Said::Own));
+        assert!(rt; settle(&rt, &mut rank, &next)? == Some(said));
+        let reply = answer(&rt, &mut rank, 0)?;
+        assert!(rt; (reply == refused(ErrClass::Exhausted)) == (said == Said::Exhausted));
+    }
+    let reply = call(&rt, &mut rank, 0, session(&rt, b"b"))?;
+    assert!(rt; reply == Some(Reply::Fine));
+    Ok(())
+}
+
+#[test]
+fn two_creations(rt: HostRuntime) -> Result<(), Fail> {
+    let mut rank = alone(&rt, rt.alloc(), 63)?;
+    let (a, b) = (key(&rt, b"a", 0), key(&rt, b"b", 0));
+    assert!(rt; call(&rt, &mut rank, 0, create(&rt, b"g", b"a", b"c"))?.is_none());
+    assert!(rt; call(&rt, &mut rank, 1, create(&rt, b"g", b"b", b"d"))?.is_none());
+    assert!(rt; settle(&rt, &mut rank, &a)? == Some(Said::Ready));
+    assert!(rt; settle(&rt, &mut rank, &b)? == Some(Said::Ready));
+    assert!(rt; offer(&rt, &mut rank, &b)? == Some(Said::Zero));
+    assert!(rt; settle(&rt, &mut rank, &b)? == Some(Said::Retry));
+    assert!(rt; offer(&rt, &mut rank, &a)? == Some(Said::Own));
+    assert!(rt; offer(&rt, &mut rank, &b)? == Some(Said::Zero));
+    assert!(rt; settle(&rt, &mut rank, &a)? == Some(Said::Picked(1)));
+    assert!(rt; !rank.is_offered(&a));
+    Ok(())
+}
+
+#[test]
+fn next_steps(rt: HostRuntime) -> Result<(), Fail> {
+    let mut rank = alone(&rt, rt.alloc(), 63)?;
+    let (a, b) = (key(&rt, b"a", 0), key(&rt, b"b", 0));
+    assert!(rt; rank.next(StepKind::Settle, None).is_none());
+    assert!(rt; call(&rt, &mut rank, 1, create(&rt, b"g", b"b", b"d"))?.is_none());
+    assert!(rt; call(&rt, &mut rank, 0, create(&rt, b"g", b"a", b"c"))?.is_none());
+    let first = Act::Settle { key: a.copy() };
+    let second = Act::Settle { key: b.copy() };
+    assert!(rt; rank.next(StepKind::Settle, None) == Some(first.copy()));
+    assert!(rt; rank.next(StepKind::Settle, Some(&first)) == Some(second.copy()));
+    assert!(rt; rank.next(StepKind::Settle, Some(&second)).is_none());
+    for next in [&b, &a] {
+        assert!(rt; settle(&rt, &mut rank, next)? == Some(Said::Ready));
+    }
+    assert!(rt; rank.next(StepKind::Offer, None) == Some(Act::Offer { key: a.copy() }));
+    for next in [&a, &b] {
+        let _ = offer(&rt, &mut rank, next)?;
+        let _ = settle(&rt, &mut rank, next)?;
+        let _ = rank.next(StepKind::Answer, None);
+    }
+    assert!(rt; rank.next(StepKind::Answer, None) == Some(Act::Answer { thread: 0 }));
+    let last = Act::Answer { thread: 0 };
+    assert!(rt; rank.next(StepKind::Answer, Some(&last)) == Some(Act::Answer { thread: 1 }));
+    Ok(())
+}
+
+#[test]
+fn rank_of_eight(rt: HostRuntime) -> Result<(), Fail> {
+    let setting = Setting {
+        ranks: 8,
+        contexts: 63,
+    };
+    let mut rank = RankState::start(rt.alloc(), 3, &setting)?;
+    assert!(rt; call(&rt, &mut rank, 7, session(&rt, b"s"))? == Some(Reply::Fine));
+    let reply = call(&rt, &mut rank, 7, self_group(&rt, b"s", b"g"))?;
+    assert!(rt; reply == Some(Reply::Group(group(3))));
+    Ok(())
+}
+
+#[test]
+fn journal(rt: HostRuntime) -> Result<(), Fail> {
+    let mut journal = Journal::none(rt.alloc());
+    for thread in [2, 5] {
+        journal.reserve(1)?;
+        journal.push(Entry {
+            choice: Choice {
+                rank: 0,
+                act: Act::Answer { thread },
+            },
+            said: None,
+            reply: Some(Reply::Null),
+        });
+    }
+    assert!(rt; journal.len() == 2);
+    let thread = match journal.get(1) {
+        Some(entry) => entry.choice.act == Act::Answer { thread: 5 },
+        None => false,
+    };
+    assert!(rt; thread);
+    assert!(rt; journal.get(2).is_none());
+    Ok(())
+}

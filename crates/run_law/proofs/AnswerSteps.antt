@@ -1,0 +1,255 @@
+-- An answer is a reply that the registry owes.
+use Rattle.std.proofs.Common.{◌≡◌, ◌≢◌, ◌⊎◌, ℕ, ◌+◌, ◌<◌, ◌≤◌, nat_lt, if◌then◌else◌, Bool, true, false, List, [], ◌∷◌, length, get_or, set, Option, Some, None, refl, sym, ap, ◌∙◌, subst, inl, inr, arith, length-set}
+use Rattle.std.specs.Option.{is_some, is_none}
+use Rattle.std.proofs.lemmas.Bool.Decides.{nat_tests}
+use Rattle.mpi_base.specs.declared.keys.Key.{Key}
+use Rattle.mpi_base.specs.Keys.{same_key}
+use Rattle.mpi_base.proofs.KeyFacts.{same_key_is, same_key-refl}
+use Rattle.mpi_base.specs.declared.ops.Reply.TheVariants as reply
+use Rattle.mpi_law.specs.declared.rows.Bound.TheVariants.{Comm}
+use Rattle.mpi_law.specs.declared.setting.Setting.{Setting}
+use Rattle.mpi_law.specs.Local.{Local, rebind, unbind}
+use Rattle.mpi_law.specs.Registry.{Registry, RankPart, ThreadPart, Communicator, Outcome, Made, NoneFree, Wait, Idle, Reply_now, Creating, blank_creation, idle_thread as idle_part, caller_of, part_of, thread_of, with_answer, after_reply, bind_outcome, owed, owed_to, outcome_reply, place_in, registry_next}
+use Rattle.mpi_protocol.specs.declared.rows.Outcome.{Outcome as Ended}
+use Rattle.mpi_protocol.specs.declared.rows.Outcome.TheVariants as ended
+use Rattle.mpi_protocol.specs.declared.rows.Stage.{Stage}
+use Rattle.mpi_protocol.specs.declared.rows.Stage.TheVariants.{Called, Waiting, Offered, Done}
+use Rattle.mpi_protocol.specs.declared.rows.Waits.{Waits}
+use Rattle.mpi_protocol.specs.declared.rows.Waits.TheVariants.{Nothing, Creation as Creates}
+use Rattle.mpi_protocol.specs.declared.rows.ThreadRow.{ThreadRow}
+use Rattle.mpi_protocol.specs.Rank.{Rank, Offer, stage_of, round_of, thread_at, idle_thread, waits_on}
+use Rattle.mpi_protocol.specs.Step.{key_from, answered, ended as ends, answer_state, is_answerable, is_done, if_done}
+use Rattle.mpi_protocol.specs.World.{rank_at}
+use Rattle.mpi_protocol.specs.Run.{reply_events}
+use Rattle.run_law.proofs.Lists.{tally, tally-set, one, set_place, get_or_past, All_map}
+use Rattle.run_law.proofs.Rows.{stage_of-close}
+use Rattle.run_law.proofs.Names.{NamesFit-rebind, NamesFit-unbind}
+use Rattle.run_law.proofs.Fits.{LocalFits, StageFits, row_of, CreationFits, WaitFits, RankFits, OfferFits, offer_fits, round_fits, is_away, is_owned, Waited, Joined}
+use Rattle.run_law.proofs.Grown.{Grows, CreationFits-grown, joined_step, threads_after}
+use Rattle.run_law.proofs.Own.{one_waiter}
+use Rattle.run_law.proofs.Threads.{others_stay}
+use Rattle.run_law.proofs.SettleSteps.{Goes}
+
+-- a thread of a rank is answered for its creation
+module _ (s : Setting) (w : List Rank) (g : Registry) (r t : ℕ) (key : Key) (target : List ℕ) (session n : ℕ) (d : Ended) (j : Joined s w g) (lt : r < s.ranks) (tt8 : t < 8) (l : Local)
+    (waits : (thread_at (rank_at w r) t).waits ≡ Creates key target session) (part_waits : (get_or (part_of g r).threads t idle_part).wait ≡ Creating n) (h : CreationFits g r (rank_at w r) key target session n)
+    (stage : stage_of (rank_at w r).opened key ≡ Some (Done d)) (some : is_none (row_of g n).outcome ≡ false)
+    (local : LocalFits g.comms r l (bind_outcome (part_of g r).local (caller_of (row_of g n).callers r) (row_of g n).outcome)) where
+  x : Rank
+  x = rank_at w r
+
+  idle_row : ThreadRow
+  idle_row = record { calls = (thread_at (rank_at w r) t).calls; waits = Nothing }
+
+  next_part : ThreadPart
+  next_part = record { calls = (thread_of g r t).calls; wait = Idle }
+
+  part : RankPart
+  part = record { local = bind_outcome (part_of g r).local (caller_of (row_of g n).callers r) (row_of g n).outcome; threads = set (part_of g r).threads t next_part }
+
+  new : Registry
+  new = record { comms = g.comms; creations = set g.creations n (with_answer (row_of g n) r); ranks = set g.ranks r part }
+
+  y : Rank
+  y = answer_state (rank_at w r) t key l
+
+  row_after : (m : ℕ) → ((m ≡ n) × (row_of new m ≡ with_answer (row_of g n) r)) ⊎ ((m ≢ n) × (row_of new m ≡ row_of g m))
+  unfolding new
+  row_after m = go (set_place g.creations n (with_answer (row_of g n) r) blank_creation m)
+    where
+      go : (((m ≡ n) × (n < length g.creations) × (get_or (set g.creations n (with_answer (row_of g n) r)) m blank_creation ≡ with_answer (row_of g n) r)) ⊎ (((m ≢ n) ⊎ (length g.creations ≤ n)) × (get_or (set g.creations n (with_answer (row_of g n) r)) m blank_creation ≡ row_of g m)))
+          → ((m ≡ n) × (get_or (set g.creations n (with_answer (row_of g n) r)) m blank_creation ≡ with_answer (row_of g n) r)) ⊎ ((m ≢ n) × (get_or (set g.creations n (with_answer (row_of g n) r)) m blank_creation ≡ row_of g m))
+      go (inl a) = inl (a.0, a.2)
+      go (inr a) = inr ((let e = a.0 in let i = h.there in λ q. grind (arith, e, i, q)), a.1)
+
+  grows : Grows g new r
+  unfolding new
+  grows = record {
+    more_comms = omega arith;
+    comms_stay = λ p lp. refl;
+    more_rows = omega (arith, length-set g.creations n (with_answer (row_of g n) r));
+    rows_stay = λ m lm other. go m other (row_after m);
+    uses_stay = λ q c ne. refl;
+  }
+    where
+      go : (m : ℕ) → ((row_of g m).group ≡ r ∷ [] → ⊥) → ((m ≡ n) × (row_of new m ≡ with_answer (row_of g n) r)) ⊎ ((m ≢ n) × (row_of new m ≡ row_of g m)) → row_of new m ≡ row_of g m
+      go m other (inl a) = absurd (other (subst (λ (i : ℕ). (row_of g i).group ≡ r ∷ []) (sym a.0) h.alone))
+      go m other (inr a) = a.1
+
+  stage_after : (k : Key) → stage_of y.opened k ≡ (if same_key key k then None else stage_of (rank_at w r).opened k)
+  unfolding y
+  stage_after k = stage_of-close (rank_at w r).opened key k
+
+  -- what the other threads wait for goes on to fit
+  waits_after : (u : ℕ) → u ≢ t → (a : Waits) (b : Wait) → (thread_at (rank_at w r) u).waits ≡ a → (get_or (part_of g r).threads u idle_part).wait ≡ b → WaitFits g r (rank_at w r) a b → WaitFits new r y a b
+  waits_after u ne Nothing Idle ex ep f = tt
+  waits_after u ne Nothing (Reply_now said) ex ep f = absurd f
+  waits_after u ne Nothing (Creating m) ex ep f = absurd f
+  waits_after u ne (Creates k to from) Idle ex ep f = absurd f
+  waits_after u ne (Creates k to from) (Reply_now said) ex ep f = absurd f
+  waits_after u ne (Creates k to from) (Creating m) ex ep f = go (same_key key k) refl (row_after m)
+    where
+      go : (b : Bool) → same_key key k ≡ b → ((m ≡ n) × (row_of new m ≡ with_answer (row_of g n) r)) ⊎ ((m ≢ n) × (row_of new m ≡ row_of g m)) → CreationFits new r y k to from m
+      go true e q = absurd (ne (same (nat_lt u 8) refl))
+        where
+          same : (z : Bool) → nat_lt u 8 ≡ z → u ≡ t
+          same true lu =
+              let is = same_key_is key k e in
+              let on : waits_on key (thread_at (rank_at w r) u).waits ≡ true = rw (ex, is) (same_key-refl k) in
+              let mine : waits_on key (thread_at (rank_at w r) t).waits ≡ true = rw waits (same_key-refl key) in
+              one_waiter s g r (rank_at w r) (part_of g r) (j.fits r lt) key u t (grind (arith, nat_tests, lu)) tt8 on mine
+          same false lu =
+              let long = (j.fits r lt).long in
+              let none : thread_at (rank_at w r) u ≡ idle_thread = get_or_past (rank_at w r).threads u idle_thread (grind (arith, nat_tests, long, lu)) in
+              let a : (thread_at (rank_at w r) u).waits ≡ Nothing = ap (λ (z : ThreadRow). z.waits) none in
+              absurd (cc (a, ex))
+      go false e (inl a) =
+          let is : k ≡ key = f.is ∙ (ap (λ (i : ℕ). key_from (row_of g i).group (row_of g i).tag) a.0 ∙ sym h.is) in
+          let same = same_key-refl key in
+          let other : same_key key key ≡ false = subst (λ (z : Key). same_key key z ≡ false) is e in
+          absurd (cc (same, other))
+      go false e (inr a) = CreationFits-grown g new r r (rank_at w r) y k to from m grows a.1 (stage_after k ∙ rw e refl) f
+
+  kept : RankFits s new r y part
+  unfolding y new part idle_row next_part
+  kept =
+      let f = j.fits r lt in
+      record {
+        rank = f.rank;
+        setting = f.setting;
+        local = local;
+        long = length-set (rank_at w r).threads t idle_row ∙ f.long;
+        long_part = length-set (part_of g r).threads t next_part ∙ f.long_part;
+        calls = threads_after (λ u a b. b.calls ≡ a.calls) (rank_at w r).threads (part_of g r).threads t idle_row next_part f.long f.long_part tt8 (f.calls t) (λ u ne. f.calls u);
+        waits = threads_after (λ u a b. WaitFits new r y a.waits b.wait) (rank_at w r).threads (part_of g r).threads t idle_row next_part f.long f.long_part tt8 tt (λ u ne. waits_after u ne (thread_at (rank_at w r) u).waits (get_or (part_of g r).threads u idle_part).wait refl refl (f.waits u));
+        waiter = λ k. rw (stage_after k) (count k (same_key key k) refl (f.waiter k) f.long);
+        rounds = λ k. rw (stage_after k) (round_at k (same_key key k) refl (f.rounds k));
+        offers = All_map (OfferFits (rank_at w r)) (OfferFits y) (rank_at w r).gathered offer_after f.offers;
+        held = λ k a. f.held k (held_at k (same_key key k) (rw (stage_after k) at a));
+        owner = λ k e. rw (stage_after k) (owner_at k (same_key key k) refl (f.owner k e));
+        mask = f.mask;
+      }
+    where
+      owner_at : (k : Key) (b : Bool) → same_key key k ≡ b → is_owned (stage_of (rank_at w r).opened k) ≡ true → is_owned (if b then None else stage_of (rank_at w r).opened k) ≡ true
+      owner_at k true e o =
+          let at : stage_of (rank_at w r).opened k ≡ Some (Done d) = subst (λ (z : Key). stage_of (rank_at w r).opened z ≡ Some (Done d)) (same_key_is key k e) stage in
+          absurd (let z : is_owned (Some (Done d)) ≡ true = rw at at o in cc (z))
+      owner_at k false e o = o
+
+      count : (k : Key) (b : Bool) → same_key key k ≡ b → tally (λ (z : ThreadRow). waits_on k z.waits) (rank_at w r).threads ≡ one (is_some (stage_of (rank_at w r).opened k)) → length (rank_at w r).threads ≡ 8
+          → tally (λ (z : ThreadRow). waits_on k z.waits) (set (rank_at w r).threads t idle_row) ≡ one (is_some (if b then None else stage_of (rank_at w r).opened k))
+      count k b e old long =
+          let ts = tally-set (λ (z : ThreadRow). waits_on k z.waits) (rank_at w r).threads t idle_row idle_thread (omega (arith, long, tt8)) in
+          let on : one (waits_on k (thread_at (rank_at w r) t).waits) ≡ one b = ap (λ (a : Waits). one (waits_on k a)) waits ∙ ap one e in
+          go b e ts on
+        where
+          go : (b : Bool) → same_key key k ≡ b → tally (λ (z : ThreadRow). waits_on k z.waits) (set (rank_at w r).threads t idle_row) + one (waits_on k (thread_at (rank_at w r) t).waits) ≡ tally (λ (z : ThreadRow). waits_on k z.waits) (rank_at w r).threads + 0
+              → one (waits_on k (thread_at (rank_at w r) t).waits) ≡ one b → tally (λ (z : ThreadRow). waits_on k z.waits) (set (rank_at w r).threads t idle_row) ≡ one (is_some (if b then None else stage_of (rank_at w r).opened k))
+          go true e ts on =
+              let at : stage_of (rank_at w r).opened k ≡ Some (Done d) = subst (λ (z : Key). stage_of (rank_at w r).opened z ≡ Some (Done d)) (same_key_is key k e) stage in
+              let full : tally (λ (z : ThreadRow). waits_on k z.waits) (rank_at w r).threads ≡ 1 = rw at at old in
+              omega (arith, ts, on, full)
+          go false e ts on = omega (arith, ts, on, old)
+
+      round_at : (k : Key) (b : Bool) → same_key key k ≡ b → round_fits (stage_of (rank_at w r).opened k) (round_of (rank_at w r).rounds k) ≡ true → round_fits (if b then None else stage_of (rank_at w r).opened k) (round_of (rank_at w r).rounds k) ≡ true
+      round_at k true e old =
+          let at : stage_of (rank_at w r).opened k ≡ Some (Done d) = subst (λ (z : Key). stage_of (rank_at w r).opened z ≡ Some (Done d)) (same_key_is key k e) stage in
+          (rw at at old)
+      round_at k false e old = old
+
+      held_at : (k : Key) (b : Bool) → is_away (if b then None else stage_of (rank_at w r).opened k) ≡ true → is_away (stage_of (rank_at w r).opened k) ≡ true
+      held_at k true a = absurd (cc (a))
+      held_at k false a = a
+
+      offer_after : (o : Offer) → OfferFits (rank_at w r) o → OfferFits y o
+      offer_after o q = record {
+        stage = rw (stage_after o.key) (at (same_key key o.key) refl);
+        owner = q.owner;
+        mask = q.mask;
+      }
+        where
+          at : (b : Bool) → same_key key o.key ≡ b → offer_fits (if b then None else stage_of (rank_at w r).opened o.key) o.own ≡ true
+          at true e =
+              let is : stage_of (rank_at w r).opened o.key ≡ Some (Done d) = subst (λ (z : Key). stage_of (rank_at w r).opened z ≡ Some (Done d)) (same_key_is key o.key e) stage in
+              let st = q.stage in
+              absurd (let z : offer_fits (Some (Done d)) o.own ≡ true = rw is at st in cc (z))
+          at false e = q.stage
+
+  waited_after : (m : ℕ) → m < length new.creations → is_none (row_of new m).outcome ≡ true → Waited s new m
+  unfolding new part next_part
+  waited_after m lm open_row = go (row_after m)
+    where
+      inside : m < length g.creations
+      inside = let e = length-set g.creations n (with_answer (row_of g n) r) in omega (arith, e, lm)
+
+      again : (m ≢ n) → Waited s g m → Waited s new m
+      again ne v =
+          let parts = j.parts in
+          let same = others_stay g new r t part next_part refl (omega (arith, parts, lt)) refl v.rank v.thread (λ q u. ne (apart v q u)) in
+          record { rank = v.rank; thread = v.thread; rank_in = v.rank_in; thread_in = v.thread_in; waits = ap (λ (z : ThreadPart). z.wait) same ∙ v.waits }
+        where
+          apart : (v : Waited s g m) → v.rank ≡ r → v.thread ≡ t → m ≡ n
+          apart v q u =
+              let a : (thread_of g r t).wait ≡ Creating m = subst (λ (i : ℕ). (thread_of g r i).wait ≡ Creating m) u (subst (λ (i : ℕ). (thread_of g i v.thread).wait ≡ Creating m) q v.waits) in
+              cc (a, part_waits)
+
+      go : ((m ≡ n) × (row_of new m ≡ with_answer (row_of g n) r)) ⊎ ((m ≢ n) × (row_of new m ≡ row_of g m)) → Waited s new m
+      go (inl a) = absurd (let z : is_none (row_of g n).outcome ≡ true = rw a.1 at open_row in cc (z, some))
+      go (inr a) = again a.0 (j.waited m inside (rw a.1 at open_row))
+
+  pub answer_joined : Joined s (set w r (answer_state (rank_at w r) t key l)) (after_reply g r t (Creating n))
+  unfolding new part next_part y
+  answer_joined = joined_step s w g new r y part j lt refl grows kept waited_after
+
+-- What is owed is what is answered
+
+abbrev Answered : Setting → List Rank → Registry → ℕ → ℕ → Waits → Type 0
+Answered s w g r t a = Goes s g (reply_events r t (answered (rank_at w r) t a).reply) (set w r (answered (rank_at w r) t a).state)
+
+answer_done : (s : Setting) (w : List Rank) (g : Registry) (r t : ℕ) (key : Key) (target : List ℕ) (session n : ℕ) (d : Ended) → Joined s w g → r < s.ranks → t < 8 → (thread_at (rank_at w r) t).waits ≡ Creates key target session
+    → (get_or (part_of g r).threads t idle_part).wait ≡ Creating n → CreationFits g r (rank_at w r) key target session n → stage_of (rank_at w r).opened key ≡ Some (Done d) → (o : Option Outcome) → (row_of g n).outcome ≡ o → StageFits g.comms (row_of g n).group (Some (Done d)) o
+    → Goes s g (reply_events r t (ends (rank_at w r) t key target session d).reply) (set w r (ends (rank_at w r) t key target session d).state)
+unfolding registry_next
+answer_done s w g r t key target session n d j lt t8 waits part_waits h stage None e fit = absurd fit
+answer_done s w g r t key target session n (ended.Context c) j lt t8 waits part_waits h stage (Some NoneFree) e fit = absurd fit
+answer_done s w g r t key target session n ended.Exhausted j lt t8 waits part_waits h stage (Some (Made p)) e fit = absurd fit
+answer_done s w g r t key target session n (ended.Context c) j lt t8 waits part_waits h stage (Some (Made p)) e fit =
+    let x = rank_at w r in
+    let f = j.fits r lt in
+    let group : key.members ≡ (row_of g n).group = ap (λ (k : Key). k.members) h.is in
+    let rank = f.rank in
+    let there : owed g r t ≡ outcome_reply g.comms r (Some (Made p)) = ap (owed_to g r) part_waits ∙ ap (outcome_reply g.comms r) e in
+    let made : outcome_reply g.comms r (Some (Made p)) ≡ Some (reply.Comm c (place_in (row_of g n).group r) (length (row_of g n).group)) = ap (λ (m : Communicator). Some (reply.Comm m.ctx (place_in m.members r) (length m.members))) fit.1 in
+    let said : Some (reply.Comm c (place_in key.members x.rank) (length key.members)) ≡ Some (reply.Comm c (place_in (row_of g n).group r) (length (row_of g n).group)) = rw (group, rank) refl in
+    let local : LocalFits g.comms r (record { names = rebind x.local.names target (Comm c session); sessions = x.local.sessions }) (bind_outcome (part_of g r).local (caller_of (row_of g n).callers r) (row_of g n).outcome) =
+    rw e (rw h.target_is (record { sessions = f.local.sessions; names = NamesFit-rebind g.comms r x.local.names (part_of g r).local.names target (Comm c session) (Comm p (caller_of (row_of g n).callers r).session) f.local.names (h.session_is, fit.0, ap (λ (m : Communicator). m.ctx) fit.1) })) in
+    ((there ∙ (made ∙ sym said), tt), rw part_waits (answer_joined s w g r t key target session n (ended.Context c) j lt t8 _ waits part_waits h stage (rw e refl) local))
+answer_done s w g r t key target session n ended.Exhausted j lt t8 waits part_waits h stage (Some NoneFree) e fit =
+    let x = rank_at w r in
+    let f = j.fits r lt in
+    let there : owed g r t ≡ outcome_reply g.comms r (Some NoneFree) = ap (owed_to g r) part_waits ∙ ap (outcome_reply g.comms r) e in
+    let local : LocalFits g.comms r (record { names = unbind x.local.names target; sessions = x.local.sessions }) (bind_outcome (part_of g r).local (caller_of (row_of g n).callers r) (row_of g n).outcome) =
+    rw e (rw h.target_is (record { sessions = f.local.sessions; names = NamesFit-unbind g.comms r x.local.names (part_of g r).local.names target f.local.names })) in
+    ((there, tt), rw part_waits (answer_joined s w g r t key target session n ended.Exhausted j lt t8 _ waits part_waits h stage (rw e refl) local))
+
+done_is : (o : Option Stage) → is_done o ≡ true → (d : Ended) × (o ≡ Some (Done d))
+done_is None e = absurd (cc (e))
+done_is (Some Called) e = absurd (cc (e))
+done_is (Some (Waiting i)) e = absurd (cc (e))
+done_is (Some (Offered i own)) e = absurd (cc (e))
+done_is (Some (Done d)) e = (d, refl)
+
+-- an answer that is enabled is the reply that is owed
+pub answer_goes : (s : Setting) (w : List Rank) (g : Registry) (r t : ℕ) → Joined s w g → r < s.ranks → t < 8 → is_answerable (rank_at w r) (thread_at (rank_at w r) t).waits ≡ true → Answered s w g r t (thread_at (rank_at w r) t).waits
+answer_goes s w g r t j lt t8 may = go (thread_at (rank_at w r) t).waits (get_or (part_of g r).threads t idle_part).wait refl refl may ((j.fits r lt).waits t)
+  where
+    go : (a : Waits) (b : Wait) → (thread_at (rank_at w r) t).waits ≡ a → (get_or (part_of g r).threads t idle_part).wait ≡ b → is_answerable (rank_at w r) a ≡ true → WaitFits g r (rank_at w r) a b → Answered s w g r t a
+    go Nothing b ex ep m f = absurd (cc (m))
+    go (Creates key target session) Idle ex ep m f = absurd f
+    go (Creates key target session) (Reply_now said) ex ep m f = absurd f
+    go (Creates key target session) (Creating n) ex ep m f =
+        let d = done_is (stage_of (rank_at w r).opened key) m in
+        let stage = f.stage in
+        let fit : StageFits g.comms (row_of g n).group (Some (Done d.0)) (row_of g n).outcome = rw d.1 at stage in
+        let done = answer_done s w g r t key target session n d.0 j lt t8 ex ep f d.1 (row_of g n).outcome refl fit in
+        subst (λ (o : Option Stage). Goes s g (reply_events r t (if_done (rank_at w r) t key target session o).reply) (set w r (if_done (rank_at w r) t key target session o).state)) (sym d.1) done

@@ -1,0 +1,381 @@
+-- A call is a call of the registry, with its reply where it comes at once.
+use Rattle.std.proofs.Common.{◌≡◌, ℕ, ◌+◌, ◌<◌, ◌==◌, ◌&&◌, ◌||◌, nat_lt, if◌then◌else◌, Bool, true, false, List, [], ◌∷◌, ◌++◌, length, get_or, set, Option, Some, None, refl, sym, ap, ◌∙◌, subst, arith, length-set}
+use Rattle.std.specs.Option.{is_some, is_none}
+use Rattle.std.specs.List.{AllByRecursion}
+use Rattle.std.proofs.lemmas.Bool.Decides.{nat_tests}
+use Rattle.std.proofs.lemmas.List.{set-set}
+use Rattle.mpi_base.specs.declared.keys.Key.{Key}
+use Rattle.mpi_base.specs.Keys.{same_key}
+use Rattle.mpi_base.proofs.KeyFacts.{same_key_is, same_key-refl, same_bytes}
+use Rattle.mpi_base.specs.declared.ops.Op.{Op}
+use Rattle.mpi_base.specs.declared.ops.Reply.{Reply}
+use Rattle.mpi_law.specs.declared.setting.Setting.{Setting}
+use Rattle.mpi_law.specs.ScriptLists.{is_built}
+use Rattle.mpi_law.specs.Local.{Local, Asked, Effect, Says, Joins, effect_of}
+use Rattle.mpi_law.specs.Registry.{Registry, Calls, Replies, RankPart, ThreadPart, Creation, Caller, Outcome, Wait, Idle, Reply_now, Creating, MayCall, blank_creation, idle_thread as idle_part, caller_of, is_named, is_open, undecided_place, part_of, thread_of, after_effect, after_reply, effect_at, owed, owed_to, registry_next}
+use Rattle.mpi_protocol.specs.declared.rows.Stage.{Stage}
+use Rattle.mpi_protocol.specs.declared.rows.Stage.TheVariants.{Called}
+use Rattle.mpi_protocol.specs.declared.rows.Waits.{Waits}
+use Rattle.mpi_protocol.specs.declared.rows.Waits.TheVariants.{Nothing, Creation as Creates}
+use Rattle.mpi_protocol.specs.declared.rows.ThreadRow.{ThreadRow}
+use Rattle.mpi_protocol.specs.Rank.{Rank, Offer, stage_of, round_of, thread_at, idle_thread, is_idle, waits_on}
+use Rattle.mpi_protocol.specs.Agreement.{has_offer}
+use Rattle.mpi_protocol.specs.Step.{key_from, called, joined, is_open_here, empty_mask}
+use Rattle.mpi_protocol.specs.World.{rank_at}
+use Rattle.mpi_protocol.specs.Run.{reply_events}
+use Rattle.run_law.proofs.Lists.{tally, tally-set, one, get_or-append, get_or-last, length-snoc, All_map, All_snoc}
+use Rattle.run_law.proofs.Rows.{or_else, stage_of-open, has_offer-append}
+use Rattle.run_law.proofs.Creations.{undecided_is, undecided_bound, join-new}
+use Rattle.run_law.proofs.Names.{EffectFits, effect_fits}
+use Rattle.run_law.proofs.Fits.{LocalFits, StageFits, row_of, CreationFits, WaitFits, RankFits, OfferFits, offer_fits, round_fits, is_away, is_owned, Waited, Joined}
+use Rattle.run_law.proofs.Grown.{Grows, CreationFits-grown, joined_step, threads_after}
+use Rattle.run_law.proofs.Own.{open_agrees}
+use Rattle.run_law.proofs.Offers.{gathers}
+use Rattle.run_law.proofs.Threads.{part_there, thread_there, others_stay}
+use Rattle.run_law.proofs.SettleSteps.{Goes}
+
+-- a thread that is idle at the rank is idle in the registry
+idle_both : (g : Registry) (r : ℕ) (x : Rank) (a : Waits) (b : Wait) → is_idle a ≡ true → WaitFits g r x a b → (a ≡ Nothing) × (b ≡ Idle)
+idle_both g r x Nothing Idle e f = (refl, refl)
+idle_both g r x Nothing (Reply_now said) e f = absurd f
+idle_both g r x Nothing (Creating n) e f = absurd f
+idle_both g r x (Creates key target session) b e f = absurd (cc (e))
+
+-- A reply at once
+
+module _ (s : Setting) (w : List Rank) (g : Registry) (r t : ℕ) (op : Op) (j : Joined s w g) (lt : r < s.ranks) (t8 : t < 8) (waits : (thread_at (rank_at w r) t).waits ≡ Nothing) (part_waits : (thread_of g r t).wait ≡ Idle)
+    (l m : Local) (said back : Reply) (effect : effect_at s g r op ≡ Says m back) (local : LocalFits g.comms r l m) (same : back ≡ said) where
+  said_row : ThreadRow
+  said_row = record { calls = (thread_at (rank_at w r) t).calls + 1; waits = Nothing }
+
+  now_part : RankPart
+  now_part = record { local = m; threads = set (part_of g r).threads t (record { calls = (thread_of g r t).calls + 1; wait = Reply_now back }) }
+
+  asked : Registry
+  asked = record { comms = g.comms; creations = g.creations; ranks = set g.ranks r now_part }
+
+  said_part : ThreadPart
+  said_part = record { calls = (thread_of g r t).calls + 1; wait = Idle }
+
+  part : RankPart
+  part = record { local = m; threads = set (part_of g r).threads t said_part }
+
+  new : Registry
+  new = record { comms = g.comms; creations = g.creations; ranks = set g.ranks r part }
+
+  y : Rank
+  y = record (rank_at w r) { local = l; threads = set (rank_at w r).threads t said_row }
+
+  part_asked : part_of asked r ≡ now_part
+  unfolding asked
+  part_asked = let k = j.parts in part_there g asked r now_part refl (omega (arith, k, lt))
+
+  thread_now : get_or now_part.threads t idle_part ≡ record { calls = (thread_of g r t).calls + 1; wait = Reply_now back }
+  unfolding now_part
+  thread_now = let k = (j.fits r lt).long_part in thread_there (part_of g r).threads t (record { calls = (thread_of g r t).calls + 1; wait = Reply_now back }) (omega (arith, k, t8))
+
+  thread_asked : thread_of asked r t ≡ record { calls = (thread_of g r t).calls + 1; wait = Reply_now back }
+  thread_asked = ap (λ (z : RankPart). get_or z.threads t idle_part) part_asked ∙ thread_now
+
+  -- the reply leaves the thread waiting for nothing
+  replied : after_reply asked r t (Reply_now back) ≡ new
+  unfolding asked new now_part part said_part
+  replied = ap (λ (rs : List RankPart). record { comms = g.comms; creations = g.creations; ranks = rs })
+      (rw (part_asked, thread_now) (set-set g.ranks r now_part _ ∙ ap (λ (ps : List ThreadPart). set g.ranks r (record { local = m; threads = ps })) (set-set (part_of g r).threads t _ said_part)))
+
+  waits_after : (u : ℕ) (a : Waits) (b : Wait) → WaitFits g r (rank_at w r) a b → WaitFits new r y a b
+  unfolding new y
+  waits_after u Nothing Idle f = tt
+  waits_after u Nothing (Reply_now q) f = absurd f
+  waits_after u Nothing (Creating n) f = absurd f
+  waits_after u (Creates k to from) Idle f = absurd f
+  waits_after u (Creates k to from) (Reply_now q) f = absurd f
+  waits_after u (Creates k to from) (Creating n) f = record { there = f.there; is = f.is; alone = f.alone; called = f.called; target_is = f.target_is; session_is = f.session_is; stage = f.stage }
+
+  kept : RankFits s new r y part
+  unfolding new y part said_part said_row
+  kept =
+      let f = j.fits r lt in
+      record {
+        rank = f.rank;
+        setting = f.setting;
+        local = local;
+        long = length-set (rank_at w r).threads t said_row ∙ f.long;
+        long_part = length-set (part_of g r).threads t said_part ∙ f.long_part;
+        calls = threads_after (λ u a b. b.calls ≡ a.calls) (rank_at w r).threads (part_of g r).threads t said_row said_part f.long f.long_part t8 (ap (λ (n : ℕ). n + 1) (f.calls t)) (λ u ne. f.calls u);
+        waits = threads_after (λ u a b. WaitFits new r y a.waits b.wait) (rank_at w r).threads (part_of g r).threads t said_row said_part f.long f.long_part t8 tt (λ u ne. waits_after u (thread_at (rank_at w r) u).waits (get_or (part_of g r).threads u idle_part).wait (f.waits u));
+        waiter = λ k. (
+            let ts = tally-set (λ (z : ThreadRow). waits_on k z.waits) (rank_at w r).threads t said_row idle_thread (let n = f.long in omega (arith, n, t8)) in
+            let none : one (waits_on k (thread_at (rank_at w r) t).waits) ≡ 0 = ap (λ (a : Waits). one (waits_on k a)) waits in
+            let old = f.waiter k in
+            omega (arith, ts, none, old)
+            );
+        rounds = f.rounds;
+        offers = All_map (OfferFits (rank_at w r)) (OfferFits y) (rank_at w r).gathered (λ o q. record { stage = q.stage; owner = q.owner; mask = q.mask }) f.offers;
+        held = f.held;
+        owner = f.owner;
+        mask = f.mask;
+      }
+
+  waited_after : (n : ℕ) → n < length new.creations → is_none (row_of new n).outcome ≡ true → Waited s new n
+  unfolding new part said_part
+  waited_after n ln open_row =
+      let v = j.waited n ln open_row in
+      let k = j.parts in
+      let stays = others_stay g new r t part said_part refl (omega (arith, k, lt)) refl v.rank v.thread (λ q u. apart v q u) in
+      record { rank = v.rank; thread = v.thread; rank_in = v.rank_in; thread_in = v.thread_in; waits = ap (λ (z : ThreadPart). z.wait) stays ∙ v.waits }
+    where
+      apart : (v : Waited s g n) → v.rank ≡ r → v.thread ≡ t → ⊥
+      apart v q u =
+          let a : (thread_of g r t).wait ≡ Creating n = subst (λ (i : ℕ). (thread_of g r i).wait ≡ Creating n) u (subst (λ (i : ℕ). (thread_of g i v.thread).wait ≡ Creating n) q v.waits) in
+          cc (a, part_waits)
+
+  pub said_goes : Goes s g (Calls r t op true ∷ Replies r t said ∷ []) (set w r (record (rank_at w r) { local = l; threads = set (rank_at w r).threads t (record { calls = (thread_at (rank_at w r) t).calls + 1; waits = Nothing }) }))
+  unfolding registry_next asked new now_part part said_part said_row y
+  said_goes =
+      let may : MayCall s g r t op true = record { rank = lt; thread = t8; idle = rw part_waits refl; reply = rw effect refl } in
+      let after : after_effect g r t (effect_at s g r op) ≡ asked = rw effect refl in
+      let owes : owed asked r t ≡ Some said = ap (λ (z : ThreadPart). owed_to asked r z.wait) thread_asked ∙ ap (λ (q : Reply). Some q) same in
+      let ends : after_reply asked r t (thread_of asked r t).wait ≡ new = ap (λ (z : ThreadPart). after_reply asked r t z.wait) thread_asked ∙ replied in
+      let whole : Joined s (set w r y) new = joined_step s w g new r y part j lt refl (record { more_comms = omega arith; comms_stay = λ p lp. refl; more_rows = omega arith; rows_stay = λ n ln other. refl; uses_stay = λ q c ne. refl }) kept waited_after in
+      ((may, (rw after owes, tt)), rw after (subst (λ (h : Registry). Joined s (set w r y) h) (sym ends) whole))
+
+-- A creation is joined
+
+or_else_some : (o p : Option Stage) → is_some o ≡ true → or_else o p ≡ o
+or_else_some None p e = absurd (cc (e))
+or_else_some (Some a) p e = refl
+
+or_else_none : (o : Option Stage) → or_else o None ≡ o
+or_else_none None = refl
+or_else_none (Some a) = refl
+
+stage_some : (g : Registry) (group : List ℕ) (o : Option Stage) (out : Option Outcome) → StageFits g.comms group o out → is_some o ≡ true
+stage_some g group None out f = absurd f
+stage_some g group (Some a) out f = refl
+
+offer_some : (o : Option Stage) (own : Bool) → offer_fits o own ≡ true → is_some o ≡ true
+offer_some None own f = absurd (cc (f))
+offer_some (Some a) own f = refl
+
+module _ (s : Setting) (w : List Rank) (g : Registry) (r t : ℕ) (op : Op) (j : Joined s w g) (lt : r < s.ranks) (t8 : t < 8) (waits : (thread_at (rank_at w r) t).waits ≡ Nothing) (part_waits : (thread_of g r t).wait ≡ Idle)
+    (l m : Local) (a : Asked) (effect : effect_at s g r op ≡ Joins m a) (local : LocalFits g.comms r l m) (group : a.group ≡ r ∷ []) (free : stage_of (rank_at w r).opened (key_from a.group a.tag) ≡ None) where
+  key : Key
+  key = key_from a.group a.tag
+
+  caller : Caller
+  caller = record { rank = r; thread = t; target = a.target; session = a.session }
+
+  row : Creation
+  row = record { group = a.group; tag = a.tag; callers = caller ∷ []; outcome = None; answered = [] }
+
+  joined_row : ThreadRow
+  joined_row = record { calls = (thread_at (rank_at w r) t).calls + 1; waits = Creates (key_from a.group a.tag) a.target a.session }
+
+  joined_part : ThreadPart
+  joined_part = record { calls = (thread_of g r t).calls + 1; wait = Creating (length g.creations) }
+
+  part' : RankPart
+  part' = record { local = m; threads = set (part_of g r).threads t joined_part }
+
+  grown : Registry
+  grown = record { comms = g.comms; creations = g.creations ++ row ∷ []; ranks = set g.ranks r part' }
+
+  -- no creation of this name is without an outcome: its thread would wait for the key
+  none_open : undecided_place g.creations a.group a.tag ≡ length g.creations
+  none_open = go (nat_lt (undecided_place g.creations a.group a.tag) (length g.creations)) refl
+    where
+      found : undecided_place g.creations a.group a.tag < length g.creations → ⊥
+      found lm =
+          let un = undecided_is g.creations a.group a.tag lm in
+          let v = j.waited (undecided_place g.creations a.group a.tag) lm (grind (arith, un)) in
+          let fq = j.fits v.rank v.rank_in in
+          at (undecided_place g.creations a.group a.tag) v un (thread_at (rank_at w v.rank) v.thread).waits (subst (λ (b : Wait). WaitFits g v.rank (rank_at w v.rank) (thread_at (rank_at w v.rank) v.thread).waits b) v.waits (fq.waits v.thread))
+        where
+          at : (n : ℕ) (v : Waited s g n) → (is_named a.group a.tag (row_of g n) && is_none (row_of g n).outcome) ≡ true → (z : Waits) → WaitFits g v.rank (rank_at w v.rank) z (Creating n) → ⊥
+          at n v un Nothing f = f
+          at n v un (Creates k to from) f =
+              let gr : (row_of g n).group ≡ a.group = same_bytes (row_of g n).group a.group (grind (arith, un)) in
+              let tg : (row_of g n).tag ≡ a.tag = same_bytes (row_of g n).tag a.tag (grind (arith, un)) in
+              let alone = f.alone in
+              let here : v.rank ≡ r = cc (alone, gr, group) in
+              let is : k ≡ key_from a.group a.tag = f.is ∙ (ap (λ (ms : List ℕ). key_from ms (row_of g n).tag) gr ∙ ap (key_from a.group) tg) in
+              let none : stage_of (rank_at w v.rank).opened k ≡ None = rw (here, is) free in
+              let st = f.stage in
+              (rw none at st)
+
+      go : (b : Bool) → nat_lt (undecided_place g.creations a.group a.tag) (length g.creations) ≡ b → undecided_place g.creations a.group a.tag ≡ length g.creations
+      go true e = absurd (found (grind (arith, nat_tests, e)))
+      go false e = let bound = undecided_bound g.creations a.group a.tag in grind (arith, nat_tests, e, bound)
+
+  row_stays : (n : ℕ) → n < length g.creations → row_of grown n ≡ row_of g n
+  unfolding grown
+  row_stays n ln = get_or-append g.creations row blank_creation n ln
+
+  row_new : row_of grown (length g.creations) ≡ row
+  unfolding grown
+  row_new = get_or-last g.creations row blank_creation
+
+  grows : Grows g grown r
+  unfolding grown
+  grows = record { more_comms = omega arith; comms_stay = λ p lp. refl; more_rows = omega (arith, length-snoc g.creations row); rows_stay = λ n ln other. row_stays n ln; uses_stay = λ q c ne. refl }
+
+  y' : Rank
+  y' = joined (rank_at w r) t l a
+
+  stage_after : (k : Key) → stage_of y'.opened k ≡ or_else (stage_of (rank_at w r).opened k) (if same_key (key_from a.group a.tag) k then Some Called else None)
+  unfolding y'
+  stage_after k = stage_of-open (rank_at w r).opened (key_from a.group a.tag) Called k
+
+  stage_stays : (k : Key) → is_some (stage_of (rank_at w r).opened k) ≡ true → stage_of y'.opened k ≡ stage_of (rank_at w r).opened k
+  stage_stays k e = stage_after k ∙ or_else_some (stage_of (rank_at w r).opened k) _ e
+
+  stage_here : stage_of y'.opened (key_from a.group a.tag) ≡ Some Called
+  stage_here = let r = same_key-refl (key_from a.group a.tag) in stage_after (key_from a.group a.tag) ∙ (rw (free, r) refl)
+
+  gathered_after : y'.gathered ≡ (rank_at w r).gathered ++ record { key = key_from a.group a.tag; place = 0; own = false; mask = empty_mask (rank_at w r) } ∷ []
+  unfolding y'
+  gathered_after = gathers (rank_at w r) r (key_from a.group a.tag) false (empty_mask (rank_at w r)) (j.fits r lt).rank group
+
+  waits_before : (u : ℕ) (b : Waits) (c : Wait) → WaitFits g r (rank_at w r) b c → WaitFits grown r y' b c
+  waits_before u Nothing Idle f = tt
+  waits_before u Nothing (Reply_now q) f = absurd f
+  waits_before u Nothing (Creating n) f = absurd f
+  waits_before u (Creates k to from) Idle f = absurd f
+  waits_before u (Creates k to from) (Reply_now q) f = absurd f
+  waits_before u (Creates k to from) (Creating n) f =
+      CreationFits-grown g grown r r (rank_at w r) y' k to from n grows (row_stays n f.there) (stage_stays k (stage_some g (row_of g n).group (stage_of (rank_at w r).opened k) (row_of g n).outcome f.stage)) f
+
+  waits_here : CreationFits grown r y' (key_from a.group a.tag) a.target a.session (length g.creations)
+  unfolding grown row caller
+  waits_here = record {
+    there = omega (arith, length-snoc g.creations row);
+    is = rw row_new refl;
+    alone = rw row_new group;
+    called = rw row_new (grind (arith, nat_tests));
+    target_is = rw row_new (let e : caller_of (caller ∷ []) r ≡ caller = grind (arith, nat_tests) in ap (λ (k : Caller). k.target) e);
+    session_is = rw row_new (let e : caller_of (caller ∷ []) r ≡ caller = grind (arith, nat_tests) in ap (λ (k : Caller). k.session) e);
+    stage = rw (row_new, stage_here) tt;
+  }
+
+  kept' : RankFits s grown r y' part'
+  unfolding grown part' joined_row joined_part y'
+  kept' =
+      let f = j.fits r lt in
+      record {
+        rank = f.rank;
+        setting = f.setting;
+        local = local;
+        long = length-set (rank_at w r).threads t joined_row ∙ f.long;
+        long_part = length-set (part_of g r).threads t joined_part ∙ f.long_part;
+        calls = threads_after (λ u b c. c.calls ≡ b.calls) (rank_at w r).threads (part_of g r).threads t joined_row joined_part f.long f.long_part t8 (ap (λ (n : ℕ). n + 1) (f.calls t)) (λ u ne. f.calls u);
+        waits = threads_after (λ u b c. WaitFits grown r y' b.waits c.wait) (rank_at w r).threads (part_of g r).threads t joined_row joined_part f.long f.long_part t8 waits_here (λ u ne. waits_before u (thread_at (rank_at w r) u).waits (get_or (part_of g r).threads u idle_part).wait (f.waits u));
+        waiter = λ k. rw (stage_after k) (count k (same_key (key_from a.group a.tag) k) refl (f.waiter k) f.long);
+        rounds = λ k. rw (stage_after k) (round_at k (same_key (key_from a.group a.tag) k) refl (f.rounds k));
+        offers = subst (λ (os : List Offer). AllByRecursion (OfferFits y') os) (sym gathered_after) (All_snoc (OfferFits y') (rank_at w r).gathered _ (All_map (OfferFits (rank_at w r)) (OfferFits y') (rank_at w r).gathered offer_before f.offers) offer_new);
+        held = λ k e. rw (gathered_after, has_offer-append (rank_at w r).gathered (record { key = key_from a.group a.tag; place = 0; own = false; mask = empty_mask (rank_at w r) }) k 0) (held_at k (same_key (key_from a.group a.tag) k) refl (f.held k) (rw (stage_after k) at e));
+        owner = λ k e. rw (stage_stays k (owned_some (stage_of (rank_at w r).opened k) (f.owner k e))) (f.owner k e);
+        mask = f.mask;
+      }
+    where
+      owned_some : (o : Option Stage) → is_owned o ≡ true → is_some o ≡ true
+      owned_some None h = absurd (cc (h))
+      owned_some (Some q) h = refl
+
+      free_at : (k : Key) → same_key (key_from a.group a.tag) k ≡ true → stage_of (rank_at w r).opened k ≡ None
+      free_at k e = subst (λ (z : Key). stage_of (rank_at w r).opened z ≡ None) (same_key_is (key_from a.group a.tag) k e) free
+
+      count : (k : Key) (b : Bool) → same_key (key_from a.group a.tag) k ≡ b → tally (λ (z : ThreadRow). waits_on k z.waits) (rank_at w r).threads ≡ one (is_some (stage_of (rank_at w r).opened k)) → length (rank_at w r).threads ≡ 8
+          → tally (λ (z : ThreadRow). waits_on k z.waits) (set (rank_at w r).threads t joined_row) ≡ one (is_some (or_else (stage_of (rank_at w r).opened k) (if b then Some Called else None)))
+      count k true e old long =
+          let ts = tally-set (λ (z : ThreadRow). waits_on k z.waits) (rank_at w r).threads t joined_row idle_thread (omega (arith, long, t8)) in
+          let none : one (waits_on k (thread_at (rank_at w r) t).waits) ≡ 0 = ap (λ (z : Waits). one (waits_on k z)) waits in
+          let on : one (waits_on k joined_row.waits) ≡ 1 = ap one e in
+          let at = free_at k e in
+          let empty : tally (λ (z : ThreadRow). waits_on k z.waits) (rank_at w r).threads ≡ 0 = rw at at old in
+          rw at (omega (arith, ts, none, on, empty))
+      count k false e old long =
+          let ts = tally-set (λ (z : ThreadRow). waits_on k z.waits) (rank_at w r).threads t joined_row idle_thread (omega (arith, long, t8)) in
+          let none : one (waits_on k (thread_at (rank_at w r) t).waits) ≡ 0 = ap (λ (z : Waits). one (waits_on k z)) waits in
+          let on : one (waits_on k joined_row.waits) ≡ 0 = ap one e in
+          rw (or_else_none (stage_of (rank_at w r).opened k)) (omega (arith, ts, none, on, old))
+
+      round_at : (k : Key) (b : Bool) → same_key (key_from a.group a.tag) k ≡ b → round_fits (stage_of (rank_at w r).opened k) (round_of (rank_at w r).rounds k) ≡ true → round_fits (or_else (stage_of (rank_at w r).opened k) (if b then Some Called else None)) (round_of (rank_at w r).rounds k) ≡ true
+      round_at k true e old = let at = free_at k e in rw at (let z : round_fits None (round_of (rank_at w r).rounds k) ≡ true = rw at at old in z)
+      round_at k false e old = rw (or_else_none (stage_of (rank_at w r).opened k)) old
+
+      offer_before : (o : Offer) → OfferFits (rank_at w r) o → OfferFits y' o
+      offer_before o q = record {
+        stage = rw (stage_stays o.key (offer_some (stage_of (rank_at w r).opened o.key) o.own q.stage)) q.stage;
+        owner = q.owner;
+        mask = q.mask;
+      }
+
+      offer_new : OfferFits y' (record { key = key_from a.group a.tag; place = 0; own = false; mask = empty_mask (rank_at w r) })
+      offer_new = record { stage = rw stage_here refl; owner = λ e. absurd (cc (e)); mask = λ e. absurd (cc (e)) }
+
+      held_at : (k : Key) (b : Bool) → same_key (key_from a.group a.tag) k ≡ b → (is_away (stage_of (rank_at w r).opened k) ≡ true → has_offer (rank_at w r).gathered k 0 ≡ true) → is_away (or_else (stage_of (rank_at w r).opened k) (if b then Some Called else None)) ≡ true
+          → (has_offer (rank_at w r).gathered k 0 || (same_key (key_from a.group a.tag) k && (0 == 0))) ≡ true
+      held_at k true e old h = grind (arith, e)
+      held_at k false e old h = let o = old (rw (or_else_none (stage_of (rank_at w r).opened k)) at h) in grind (arith, o)
+
+  waited_grown : (n : ℕ) → n < length grown.creations → is_none (row_of grown n).outcome ≡ true → Waited s grown n
+  unfolding grown part' joined_part
+  waited_grown n ln open_row = go (nat_lt n (length g.creations)) refl
+    where
+      k : length g.ranks ≡ s.ranks
+      k = j.parts
+
+      apart : n < length g.creations → (v : Waited s g n) → v.rank ≡ r → v.thread ≡ t → ⊥
+      apart l v q u =
+          let z : (thread_of g r t).wait ≡ Creating n = subst (λ (i : ℕ). (thread_of g r i).wait ≡ Creating n) u (subst (λ (i : ℕ). (thread_of g i v.thread).wait ≡ Creating n) q v.waits) in
+          cc (z, part_waits)
+
+      there : thread_of grown r t ≡ joined_part
+      there =
+          let p = (j.fits r lt).long_part in
+          ap (λ (z : RankPart). get_or z.threads t idle_part) (part_there g grown r part' refl (omega (arith, k, lt))) ∙ thread_there (part_of g r).threads t joined_part (omega (arith, p, t8))
+
+      go : (b : Bool) → nat_lt n (length g.creations) ≡ b → Waited s grown n
+      go true e =
+          let l : n < length g.creations = grind (arith, nat_tests, e) in
+          let v = j.waited n l (rw (row_stays n l) at open_row) in
+          let stays = others_stay g grown r t part' joined_part refl (omega (arith, k, lt)) refl v.rank v.thread (λ q u. apart l v q u) in
+          record { rank = v.rank; thread = v.thread; rank_in = v.rank_in; thread_in = v.thread_in; waits = ap (λ (z : ThreadPart). z.wait) stays ∙ v.waits }
+      go false e =
+          let last : n ≡ length g.creations = let s = length-snoc g.creations row in grind (arith, nat_tests, e, s, ln) in
+          record { rank = r; thread = t; rank_in = lt; thread_in = t8; waits = ap (λ (z : ThreadPart). z.wait) there ∙ ap Creating (sym last) }
+
+  pub joined_goes : Goes s g (Calls r t op false ∷ []) (set w r (joined (rank_at w r) t l a))
+  unfolding registry_next grown row caller part' joined_part y'
+  joined_goes =
+      let may : MayCall s g r t op false = record { rank = lt; thread = t8; idle = rw part_waits refl; reply = rw effect refl } in
+      let rows = join-new g.creations a.group a.tag caller none_open in
+      let after : after_effect g r t (effect_at s g r op) ≡ grown = rw (effect, none_open, rows) refl in
+      let whole : Joined s (set w r y') grown = joined_step s w g grown r y' part' j lt refl grows kept' waited_grown in
+      ((may, tt), subst (λ (h : Registry). Joined s (set w r y') h) (sym after) whole)
+
+-- a call that is enabled
+pub call_goes : (s : Setting) (w : List Rank) (g : Registry) (r t : ℕ) (op : Op) → Joined s w g → r < s.ranks → t < 8 → is_idle (thread_at (rank_at w r) t).waits ≡ true → is_built op ≡ true
+    → Goes s g (Calls r t op (is_some (called (rank_at w r) t (effect_of (rank_at w r).setting (rank_at w r).rank (is_open_here (rank_at w r)) (rank_at w r).local op)).reply) ∷ reply_events r t (called (rank_at w r) t (effect_of (rank_at w r).setting (rank_at w r).rank (is_open_here (rank_at w r)) (rank_at w r).local op)).reply)
+    (set w r (called (rank_at w r) t (effect_of (rank_at w r).setting (rank_at w r).rank (is_open_here (rank_at w r)) (rank_at w r).local op)).state)
+call_goes s w g r t op j lt t8 idle built =
+    let x = rank_at w r in
+    let f = j.fits r lt in
+    let both = idle_both g r x (thread_at x t).waits (get_or (part_of g r).threads t idle_part).wait idle (f.waits t) in
+    let fits = effect_fits s g.comms r (is_open_here x) (is_open g r) (open_agrees s g r x f) x.local (part_of g r).local f.local op built in
+    let same : effect_of x.setting x.rank (is_open_here x) x.local op ≡ effect_of s r (is_open_here x) x.local op = ap (λ (z : Setting). effect_of z x.rank (is_open_here x) x.local op) f.setting ∙ ap (λ (i : ℕ). effect_of s i (is_open_here x) x.local op) f.rank in
+    subst (λ (e : Effect). Goes s g (Calls r t op (is_some (called x t e).reply) ∷ reply_events r t (called x t e).reply) (set w r (called x t e).state)) (sym same)
+    (go both.0 both.1 (effect_of s r (is_open_here x) x.local op) (effect_at s g r op) refl fits)
+  where
+    go : (thread_at (rank_at w r) t).waits ≡ Nothing → (thread_of g r t).wait ≡ Idle → (a b : Effect) → effect_at s g r op ≡ b → EffectFits g.comms r (is_open_here (rank_at w r)) a b
+        → Goes s g (Calls r t op (is_some (called (rank_at w r) t a).reply) ∷ reply_events r t (called (rank_at w r) t a).reply) (set w r (called (rank_at w r) t a).state)
+    go wx wp (Says l said) (Says m back) e fit = said_goes s w g r t op j lt t8 wx wp l m said back e fit.0 fit.1
+    go wx wp (Says l said) (Joins m a) e fit = absurd fit
+    go wx wp (Joins l a) (Says m back) e fit = absurd fit
+    go wx wp (Joins l a) (Joins m b) e fit =
+        joined_goes s w g r t op j lt t8 wx wp l m a (e ∙ ap (Joins m) fit.1) fit.0 fit.2 (none_of (stage_of (rank_at w r).opened (key_from a.group a.tag)) fit.3)
+      where
+        none_of : (o : Option Stage) → is_some o ≡ false → o ≡ None
+        none_of None h = refl
+        none_of (Some q) h = absurd (cc (h))

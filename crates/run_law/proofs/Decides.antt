@@ -1,0 +1,111 @@
+-- A settle that decides a creation: in the registry it is a pick.
+use Rattle.std.proofs.Common.{◌≡◌, ◌≢◌, ℕ, zero, suc, ◌+◌, ◌<◌, ◌≤◌, ◌==◌, if◌then◌else◌, Bool, true, false, List, [], ◌∷◌, length, find, Option, Some, None, refl, sym, ap, ◌∙◌, subst, arith}
+use Rattle.std.specs.Option.{is_some}
+use Rattle.std.specs.List.{range_with_len}
+use Rattle.std.proofs.lemmas.Bool.Decides.{nat_tests}
+use Rattle.mpi_base.specs.declared.keys.Key.{Key}
+use Rattle.mpi_base.proofs.KeyFacts.{same_key-refl, same_bytes, bytes_eq-refl}
+use Rattle.mpi_law.specs.declared.setting.Setting.{Setting}
+use Rattle.mpi_law.specs.Registry.{Registry, RankPart, Communicator, Outcome, Wait, Creating, is_undecided, undecided_place, part_of, thread_of}
+use Rattle.mpi_protocol.specs.declared.rows.Stage.{Stage}
+use Rattle.mpi_protocol.specs.declared.rows.Stage.TheVariants.{Called, Waiting, Offered, Done}
+use Rattle.mpi_protocol.specs.declared.rows.Waits.{Waits}
+use Rattle.mpi_protocol.specs.declared.rows.Waits.TheVariants.{Nothing, Creation as Creates}
+use Rattle.mpi_protocol.specs.Rank.{Rank, stage_of, thread_at, waits_on}
+use Rattle.mpi_protocol.specs.Step.{key_from}
+use Rattle.mpi_protocol.specs.World.{rank_at}
+use Rattle.run_law.proofs.Creations.{undecided_is, undecided_le}
+use Rattle.run_law.proofs.Fits.{StageFits, row_of, WaitFits, Waited, Joined}
+use Rattle.run_law.proofs.Own.{Waiter, waiter_of, one_waiter}
+use Rattle.run_law.proofs.Offers.{is_undone}
+
+-- Searches from 1
+
+pub find_range : (p : ℕ → Bool) (a n c : ℕ) → find p (range_with_len a n) ≡ Some c → (p c ≡ true) × ((a ≤ c) × (c < a + n))
+find_range p a zero c e = absurd (cc (e))
+find_range p a (suc n) c e = go (p a) refl e (find_range p (a + 1) n c)
+  where
+    go : (b : Bool) → p a ≡ b → (if b then Some a else find p (range_with_len (a + 1) n)) ≡ Some c → (find p (range_with_len (a + 1) n) ≡ Some c → (p c ≡ true) × ((a + 1 ≤ c) × (c < a + 1 + n))) → (p c ≡ true) × ((a ≤ c) × (c < a + suc n))
+    go true t h ih = let is : a ≡ c = cc (h) in (subst (λ (i : ℕ). p i ≡ true) is t, (omega arith, omega arith))
+    go false t h ih = let r = ih h in let lo = r.1.0 in let hi = r.1.1 in (r.0, (omega (arith, lo), omega (arith, hi)))
+
+pub find_range_none : (p : ℕ → Bool) (a n c : ℕ) → find p (range_with_len a n) ≡ None → a ≤ c → c < a + n → p c ≡ false
+find_range_none p a zero c e lo hi = absurd (omega arith)
+find_range_none p a (suc n) c e lo hi = go (p a) refl e (find_range_none p (a + 1) n c) (a == c) refl
+  where
+    go : (b : Bool) → p a ≡ b → (if b then Some a else find p (range_with_len (a + 1) n)) ≡ None → (find p (range_with_len (a + 1) n) ≡ None → a + 1 ≤ c → c < a + 1 + n → p c ≡ false) → (t : Bool) → (a == c) ≡ t → p c ≡ false
+    go true t h ih q eq = absurd (cc (h))
+    go false t h ih true eq = let is : a ≡ c = grind (arith, nat_tests, eq) in subst (λ (i : ℕ). p i ≡ false) is t
+    go false t h ih false eq = let ne : a ≢ c = grind (arith, nat_tests, eq) in ih h (omega arith) (omega arith)
+
+-- The creation of the key
+
+outcome_none : (comms : List Communicator) (group : List ℕ) (s : Option Stage) (o : Option Outcome) → is_undone s ≡ true → StageFits comms group s o → o ≡ None
+outcome_none comms group None o u h = absurd h
+outcome_none comms group (Some Called) None u h = refl
+outcome_none comms group (Some Called) (Some o) u h = absurd h
+outcome_none comms group (Some (Waiting i)) None u h = refl
+outcome_none comms group (Some (Waiting i)) (Some o) u h = absurd h
+outcome_none comms group (Some (Offered i own)) None u h = refl
+outcome_none comms group (Some (Offered i own)) (Some o) u h = absurd h
+outcome_none comms group (Some (Done d)) o u h = absurd (cc (u))
+
+some_of_undone : (s : Option Stage) → is_undone s ≡ true → is_some s ≡ true
+some_of_undone None u = absurd (cc (u))
+some_of_undone (Some s) u = refl
+
+-- what is known of a key that is about to be decided
+pub record Deciding (g : Registry) (r : ℕ) (x : Rank) (p : RankPart) (key : Key) : Type 0 where
+  pub waiter : Waiter g r x p key
+  pub open_row : (row_of g waiter.place).outcome ≡ None
+  pub members : key.members ≡ r ∷ []
+  pub place : undecided_place g.creations key.members key.tag ≡ waiter.place
+
+pub deciding : (s : Setting) (w : List Rank) (g : Registry) (r : ℕ) (key : Key) → Joined s w g → r < s.ranks → is_undone (stage_of (rank_at w r).opened key) ≡ true → Deciding g r (rank_at w r) (part_of g r) key
+deciding s w g r key j lt undone =
+    let f = j.fits r lt in
+    let v = waiter_of s g r (rank_at w r) (part_of g r) f key (some_of_undone (stage_of (rank_at w r).opened key) undone) in
+    let open_row = outcome_none g.comms (row_of g v.place).group (stage_of (rank_at w r).opened key) (row_of g v.place).outcome undone v.fits.stage in
+    let members = ap (λ (k : Key). k.members) v.fits.is ∙ v.fits.alone in
+    record { waiter = v; open_row = open_row; members = members; place = same_place v open_row }
+  where
+    is_here : (v : Waiter g r (rank_at w r) (part_of g r) key) → (row_of g v.place).outcome ≡ None → is_undecided key.members key.tag (row_of g v.place) ≡ true
+    is_here v o =
+        let a = bytes_eq-refl (row_of g v.place).group in
+        let b = bytes_eq-refl (row_of g v.place).tag in
+        subst (λ (k : Key). is_undecided k.members k.tag (row_of g v.place) ≡ true) (sym v.fits.is) (rw (a, b, o) refl)
+
+    -- the thread that waits for an undecided creation of this name is the one that waits for the key
+    same_place : (v : Waiter g r (rank_at w r) (part_of g r) key) → (row_of g v.place).outcome ≡ None → undecided_place g.creations key.members key.tag ≡ v.place
+    same_place v o = other (undecided_place g.creations key.members key.tag) refl
+      where
+        from : (m : ℕ) → m < length g.creations → is_undecided key.members key.tag (row_of g m) ≡ true → (q : Waited s g m) → m ≡ v.place
+        from m lm un q =
+            let fq = j.fits q.rank q.rank_in in
+            go (thread_at (rank_at w q.rank) q.thread).waits refl (subst (λ (b : Wait). WaitFits g q.rank (rank_at w q.rank) (thread_at (rank_at w q.rank) q.thread).waits b) q.waits (fq.waits q.thread))
+          where
+            go : (a : Waits) → (thread_at (rank_at w q.rank) q.thread).waits ≡ a → WaitFits g q.rank (rank_at w q.rank) a (Creating m) → m ≡ v.place
+            go Nothing e h = absurd h
+            go (Creates k target session) e h =
+                let group : (row_of g m).group ≡ key.members = same_bytes (row_of g m).group key.members (grind (arith, un)) in
+                let tag : (row_of g m).tag ≡ key.tag = same_bytes (row_of g m).tag key.tag (grind (arith, un)) in
+                let mine : key.members ≡ r ∷ [] = ap (λ (z : Key). z.members) v.fits.is ∙ v.fits.alone in
+                let alone = h.alone in
+                let here : q.rank ≡ r = cc (alone, group, mine) in
+                let same : k ≡ key = h.is ∙ (ap (λ (ms : List ℕ). key_from ms (row_of g m).tag) group ∙ (ap (key_from key.members) tag ∙ (ap (λ (z : Key). key_from z.members z.tag) v.fits.is ∙ sym v.fits.is))) in
+                let on : waits_on key (thread_at (rank_at w r) q.thread).waits ≡ true = subst (λ (i : ℕ). waits_on key (thread_at (rank_at w i) q.thread).waits ≡ true) here (rw (e, same) (same_key-refl key)) in
+                let mine_on : waits_on key (thread_at (rank_at w r) v.thread).waits ≡ true = rw v.waits (same_key-refl key) in
+                let threads = one_waiter s g r (rank_at w r) (part_of g r) (j.fits r lt) key q.thread v.thread q.thread_in v.inside on mine_on in
+                let a : (thread_of g r v.thread).wait ≡ Creating m = subst (λ (i : ℕ). (thread_of g r i).wait ≡ Creating m) threads (subst (λ (i : ℕ). (thread_of g i q.thread).wait ≡ Creating m) here q.waits) in
+                let b = v.part_waits in
+                cc (a, b)
+
+        other : (m : ℕ) → undecided_place g.creations key.members key.tag ≡ m → undecided_place g.creations key.members key.tag ≡ v.place
+        other m e =
+            let here = is_here v o in
+            let there = v.fits.there in
+            let le = undecided_le g.creations key.members key.tag v.place there here in
+            let lm : m < length g.creations = omega (arith, e, le, there) in
+            let un = undecided_is g.creations key.members key.tag (rw e lm) in
+            let un' : is_undecided key.members key.tag (row_of g m) ≡ true = rw e at un in
+            e ∙ from m lm un' (j.waited m lm (grind (arith, un')))

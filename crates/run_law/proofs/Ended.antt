@@ -1,0 +1,75 @@
+-- What closed means.
+use Rattle.std.proofs.Common.{◌≡◌, ℕ, zero, suc, ◌<◌, ◌&&◌, ◌||◌, not, Bool, true, false, List, [], ◌∷◌, length, get_or, Option, Some, None, bytes_eq, refl, sym, subst, arith}
+use Rattle.std.specs.Option.{is_some, is_none}
+use Rattle.std.specs.List.{list_all, range_with_len}
+use Rattle.mpi_base.specs.declared.keys.Key.{Key}
+use Rattle.mpi_base.specs.declared.ops.Op.{Op}
+use Rattle.mpi_base.specs.declared.ops.Reply.{Reply}
+use Rattle.mpi_base.proofs.KeyFacts.{same_bytes}
+use Rattle.mpi_law.specs.declared.setting.Setting.{Setting}
+use Rattle.mpi_law.specs.ScriptLists.{AllScripts, next_op}
+use Rattle.mpi_law.specs.Registry.{Registry, Creation, MayPick, Allowed, Calls, Picks, Replies, blank_creation, has_called, is_idle_wait, owed, thread_of, undecided_place}
+use Rattle.mpi_law.specs.Closed.{is_picked_or_short, is_at_rest, is_closed}
+use Rattle.run_law.proofs.Lists.{all_range_at}
+use Rattle.run_law.proofs.Creations.{undecided_is}
+
+row_at : (p : Creation → Bool) (cs : List Creation) (n : ℕ) → list_all p cs ≡ true → n < length cs → p (get_or cs n blank_creation) ≡ true
+row_at p [] n h lt = absurd (omega arith)
+row_at p (c ∷ cs) zero h lt = grind (arith, h)
+row_at p (c ∷ cs) (suc n) h lt = row_at p cs n (grind (arith, h)) (omega arith)
+
+halves : (a b : Bool) → (a && b) ≡ true → (a ≡ true) × (b ≡ true)
+halves true b e = (refl, e)
+halves false b e = absurd (cc (e))
+
+closed_rows : (s : Setting) (scripts : AllScripts) (g : Registry) → is_closed s scripts g ≡ true → list_all is_picked_or_short g.creations ≡ true
+unfolding is_closed
+closed_rows s scripts g h = (halves (list_all is_picked_or_short g.creations) (list_all (λ r. list_all (is_at_rest scripts g r) (range_with_len 0 8)) (range_with_len 0 s.ranks)) h).0
+
+closed_threads : (s : Setting) (scripts : AllScripts) (g : Registry) (r t : ℕ) → is_closed s scripts g ≡ true → r < s.ranks → t < 8 → is_at_rest scripts g r t ≡ true
+unfolding is_closed
+closed_threads s scripts g r t h lr lt =
+    let all = (halves (list_all is_picked_or_short g.creations) (list_all (λ r. list_all (is_at_rest scripts g r) (range_with_len 0 8)) (range_with_len 0 s.ranks)) h).1 in
+    let one = all_range_at (λ r. list_all (is_at_rest scripts g r) (range_with_len 0 8)) 0 s.ranks r all (omega arith) (omega arith) in
+    all_range_at (is_at_rest scripts g r) 0 8 t one (omega arith) (omega arith)
+
+no_pick : (s : Setting) (scripts : AllScripts) (g : Registry) (key : Key) → is_closed s scripts g ≡ true → MayPick g key → ⊥
+no_pick s scripts g key h m =
+    let n = undecided_place g.creations key.members key.tag in
+    let un = undecided_is g.creations key.members key.tag m.there in
+    let at = row_at is_picked_or_short g.creations n (closed_rows s scripts g h) m.there in
+    let all = m.all in
+    let group = same_bytes (get_or g.creations n blank_creation).group key.members (grind (arith, un)) in
+    let called : list_all (has_called (get_or g.creations n blank_creation)) (get_or g.creations n blank_creation).group ≡ true = subst (λ (ms : List ℕ). list_all (has_called (get_or g.creations n blank_creation)) ms ≡ true) (sym group) all in
+    go (get_or g.creations n blank_creation) un at called
+  where
+    go : (c : Creation) → ((bytes_eq c.group key.members && bytes_eq c.tag key.tag) && is_none c.outcome) ≡ true → is_picked_or_short c ≡ true → list_all (has_called c) c.group ≡ true → ⊥
+    go c un at called = wrong (is_none c.outcome) (is_some c.outcome) (both c.outcome) (list_all (has_called c) c.group) (halves (bytes_eq c.group key.members && bytes_eq c.tag key.tag) (is_none c.outcome) un).1 at called
+      where
+        both : {A : Type 0} (o : Option A) → is_some o ≡ not (is_none o)
+        both None = refl
+        both (Some a) = refl
+
+        wrong : (n s : Bool) → s ≡ not n → (a : Bool) → n ≡ true → (s || not a) ≡ true → a ≡ true → ⊥
+        wrong n s e a f g h = grind (arith, e, f, g, h)
+
+pub picks_end : (s : Setting) (scripts : AllScripts) (g : Registry) (r : ℕ) (key : Key) (pick : Option ℕ) → is_closed s scripts g ≡ true → Allowed s g (Picks r key pick) → ⊥
+picks_end s scripts g r key None h a = no_pick s scripts g key h a.0
+picks_end s scripts g r key (Some c) h a = no_pick s scripts g key h a.0
+
+pub replies_end : (s : Setting) (scripts : AllScripts) (g : Registry) (r t : ℕ) (said : Reply) → is_closed s scripts g ≡ true → r < s.ranks → t < 8 → Allowed s g (Replies r t said) → ⊥
+replies_end s scripts g r t said h lr lt a =
+    let rest = closed_threads s scripts g r t h lr lt in
+    let none = (halves (is_none (owed g r t)) (not (is_idle_wait (thread_of g r t).wait) || is_none (next_op scripts r t (thread_of g r t).calls)) rest).0 in
+    (let z : is_none (Some said) ≡ true = rw a at none in cc (z))
+
+none_is : {A : Type 0} (o : Option A) → is_none o ≡ true → o ≡ None
+none_is None e = refl
+none_is (Some a) e = absurd (cc (e))
+
+pub calls_end : (s : Setting) (scripts : AllScripts) (g : Registry) (r t : ℕ) (op : Op) (now : Bool) → is_closed s scripts g ≡ true → Allowed s g (Calls r t op now) → next_op scripts r t (thread_of g r t).calls ≡ None
+calls_end s scripts g r t op now h a =
+    let rest = closed_threads s scripts g r t h a.rank a.thread in
+    let last = (halves (is_none (owed g r t)) (not (is_idle_wait (thread_of g r t).wait) || is_none (next_op scripts r t (thread_of g r t).calls)) rest).1 in
+    let idle = a.idle in
+    none_is (next_op scripts r t (thread_of g r t).calls) (rw idle at last)

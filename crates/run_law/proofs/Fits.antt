@@ -1,0 +1,158 @@
+-- How the registry's part of a rank and the rank's own state belong together.
+use Rattle.std.proofs.Common.{◌≡◌, ℕ, ◌<◌, ◌==◌, ◌&&◌, not, if◌then◌else◌, nat_lt, nat_le, Bool, true, false, List, [], ◌∷◌, length, get_or, Option, Some, None}
+use Rattle.std.specs.Option.{is_some, is_none}
+use Rattle.std.specs.List.{AllByRecursion}
+use Rattle.mpi_base.specs.declared.keys.Key.{Key}
+use Rattle.mpi_law.specs.declared.rows.Bound.{Bound}
+use Rattle.mpi_law.specs.declared.rows.Bound.TheVariants as bound
+use Rattle.mpi_law.specs.declared.rows.NameRow.{NameRow}
+use Rattle.mpi_law.specs.declared.setting.Setting.{Setting}
+use Rattle.mpi_law.specs.Local.{Local}
+use Rattle.mpi_law.specs.Registry.{Registry, RankPart, Communicator, Creation, Outcome, Made, NoneFree, Wait, Idle, Reply_now, Creating, blank_comm, blank_creation, idle_thread as idle_part, in_use, caller_of, has_called, thread_of, part_of}
+use Rattle.mpi_protocol.specs.declared.rows.Stage.{Stage}
+use Rattle.mpi_protocol.specs.declared.rows.Stage.TheVariants.{Called, Waiting, Offered, Done}
+use Rattle.mpi_protocol.specs.declared.rows.Outcome.TheVariants as ended
+use Rattle.mpi_protocol.specs.declared.rows.Waits.{Waits}
+use Rattle.mpi_protocol.specs.declared.rows.Waits.TheVariants.{Nothing, Creation as Creates}
+use Rattle.mpi_protocol.specs.Rank.{Rank, Offer, stage_of, round_of, thread_at, waits_on}
+use Rattle.mpi_protocol.specs.Agreement.{is_key, has_offer}
+use Rattle.mpi_protocol.specs.Step.{key_from}
+use Rattle.mpi_protocol.specs.World.{rank_at}
+use Rattle.run_law.proofs.Lists.{tally, one}
+
+-- Names
+
+-- one name: a communicator stands at a place of the registry's list under the context that the rank knows;
+-- a group is the rank alone
+abbrev pub BoundFits : List Communicator → ℕ → Bound → Bound → Type 0
+BoundFits comms r bound.Reserved bound.Reserved = Unit {0}
+BoundFits comms r bound.Reserved (bound.Session s) = ⊥
+BoundFits comms r bound.Reserved (bound.Group ms s) = ⊥
+BoundFits comms r bound.Reserved (bound.Comm c s) = ⊥
+BoundFits comms r (bound.Session s) bound.Reserved = ⊥
+BoundFits comms r (bound.Session s) (bound.Session q) = q ≡ s
+BoundFits comms r (bound.Session s) (bound.Group ms q) = ⊥
+BoundFits comms r (bound.Session s) (bound.Comm c q) = ⊥
+BoundFits comms r (bound.Group ms s) bound.Reserved = ⊥
+BoundFits comms r (bound.Group ms s) (bound.Session q) = ⊥
+BoundFits comms r (bound.Group ms s) (bound.Group ns q) = (ns ≡ ms) × (q ≡ s) × (ms ≡ r ∷ [])
+BoundFits comms r (bound.Group ms s) (bound.Comm c q) = ⊥
+BoundFits comms r (bound.Comm c s) bound.Reserved = ⊥
+BoundFits comms r (bound.Comm c s) (bound.Session q) = ⊥
+BoundFits comms r (bound.Comm c s) (bound.Group ms q) = ⊥
+BoundFits comms r (bound.Comm c s) (bound.Comm p q) = (q ≡ s) × (p < length comms) × ((get_or comms p blank_comm).ctx ≡ c)
+
+abbrev pub NamesFit : List Communicator → ℕ → List NameRow → List NameRow → Type 0
+NamesFit comms r [] [] = Unit {0}
+NamesFit comms r [] (y ∷ ys) = ⊥
+NamesFit comms r (x ∷ xs) [] = ⊥
+NamesFit comms r (x ∷ xs) (y ∷ ys) = (y.name ≡ x.name) × BoundFits comms r x.bound y.bound × NamesFit comms r xs ys
+
+pub record LocalFits (comms : List Communicator) (r : ℕ) (l m : Local) : Type 0 where
+  pub sessions : m.sessions ≡ l.sessions
+  pub names : NamesFit comms r l.names m.names
+
+-- Creations
+
+-- how far a creation is at a rank, and its outcome
+abbrev pub StageFits : List Communicator → List ℕ → Option Stage → Option Outcome → Type 0
+StageFits comms group None o = ⊥
+StageFits comms group (Some Called) None = Unit {0}
+StageFits comms group (Some Called) (Some o) = ⊥
+StageFits comms group (Some (Waiting i)) None = Unit {0}
+StageFits comms group (Some (Waiting i)) (Some o) = ⊥
+StageFits comms group (Some (Offered i own)) None = Unit {0}
+StageFits comms group (Some (Offered i own)) (Some o) = ⊥
+StageFits comms group (Some (Done d)) None = ⊥
+StageFits comms group (Some (Done (ended.Context c))) (Some (Made p)) = (p < length comms) × (get_or comms p blank_comm ≡ record { ctx = c; members = group })
+StageFits comms group (Some (Done (ended.Context c))) (Some NoneFree) = ⊥
+StageFits comms group (Some (Done ended.Exhausted)) (Some (Made p)) = ⊥
+StageFits comms group (Some (Done ended.Exhausted)) (Some NoneFree) = Unit {0}
+
+abbrev pub row_of : Registry → ℕ → Creation
+row_of g n = get_or g.creations n blank_creation
+
+-- a thread that waits for a key waits for the creation at this place
+pub record CreationFits (g : Registry) (r : ℕ) (x : Rank) (key : Key) (target : List ℕ) (session n : ℕ) : Type 0 where
+  pub there : n < length g.creations
+  pub is : key ≡ key_from (row_of g n).group (row_of g n).tag
+  pub alone : (row_of g n).group ≡ r ∷ []
+  pub called : has_called (row_of g n) r ≡ true
+  pub target_is : (caller_of (row_of g n).callers r).target ≡ target
+  pub session_is : (caller_of (row_of g n).callers r).session ≡ session
+  pub stage : StageFits g.comms (row_of g n).group (stage_of x.opened key) (row_of g n).outcome
+
+abbrev pub WaitFits : Registry → ℕ → Rank → Waits → Wait → Type 0
+WaitFits g r x Nothing Idle = Unit {0}
+WaitFits g r x Nothing (Reply_now said) = ⊥
+WaitFits g r x Nothing (Creating n) = ⊥
+WaitFits g r x (Creates key target session) Idle = ⊥
+WaitFits g r x (Creates key target session) (Reply_now said) = ⊥
+WaitFits g r x (Creates key target session) (Creating n) = CreationFits g r x key target session n
+
+-- The agreement
+
+abbrev pub round_fits : Option Stage → ℕ → Bool
+round_fits None n = n == 0
+round_fits (Some Called) n = n == 0
+round_fits (Some (Waiting i)) n = (n == i) && nat_lt 0 i
+round_fits (Some (Offered i own)) n = (n == i) && nat_lt 0 i
+round_fits (Some (Done o)) n = n == 0
+
+abbrev pub offer_fits : Option Stage → Bool → Bool
+offer_fits None own = false
+offer_fits (Some Called) own = not own
+offer_fits (Some (Waiting i)) own = false
+offer_fits (Some (Offered i o)) own = if own then o else not o
+offer_fits (Some (Done o)) own = false
+
+-- a gathered offer is of this round, and where it owns it carries the mask as it stands
+pub record OfferFits (x : Rank) (o : Offer) : Type 0 where
+  pub stage : offer_fits (stage_of x.opened o.key) o.own ≡ true
+  pub owner : o.own ≡ true → is_key x.owner o.key ≡ true
+  pub mask : o.own ≡ true → o.mask ≡ x.mask
+
+-- the key's own offer of the round is made
+abbrev pub is_away : Option Stage → Bool
+is_away None = false
+is_away (Some Called) = true
+is_away (Some (Waiting i)) = false
+is_away (Some (Offered i own)) = true
+is_away (Some (Done o)) = false
+
+-- the key's offer of the round owns the mask
+abbrev pub is_owned : Option Stage → Bool
+is_owned None = false
+is_owned (Some Called) = false
+is_owned (Some (Waiting i)) = false
+is_owned (Some (Offered i own)) = own
+is_owned (Some (Done o)) = false
+
+pub record RankFits (s : Setting) (g : Registry) (r : ℕ) (x : Rank) (p : RankPart) : Type 0 where
+  pub rank : x.rank ≡ r
+  pub setting : x.setting ≡ s
+  pub local : LocalFits g.comms r x.local p.local
+  pub long : length x.threads ≡ 8
+  pub long_part : length p.threads ≡ 8
+  pub calls : (t : ℕ) → (get_or p.threads t idle_part).calls ≡ (thread_at x t).calls
+  pub waits : (t : ℕ) → WaitFits g r x (thread_at x t).waits (get_or p.threads t idle_part).wait
+  pub waiter : (k : Key) → tally (λ t. waits_on k t.waits) x.threads ≡ one (is_some (stage_of x.opened k))
+  pub rounds : (k : Key) → round_fits (stage_of x.opened k) (round_of x.rounds k) ≡ true
+  pub offers : AllByRecursion (OfferFits x) x.gathered
+  pub held : (k : Key) → is_away (stage_of x.opened k) ≡ true → has_offer x.gathered k 0 ≡ true
+  pub owner : (k : Key) → is_key x.owner k ≡ true → is_owned (stage_of x.opened k) ≡ true
+  pub mask : (c : ℕ) → get_or x.mask c false ≡ (nat_lt 0 c && (nat_le c s.contexts && not (in_use g.comms r c)))
+
+-- a creation without an outcome has a thread that waits for it
+pub record Waited (s : Setting) (g : Registry) (n : ℕ) : Type 0 where
+  pub rank : ℕ
+  pub thread : ℕ
+  pub rank_in : rank < s.ranks
+  pub thread_in : thread < 8
+  pub waits : (thread_of g rank thread).wait ≡ Creating n
+
+pub record Joined (s : Setting) (w : List Rank) (g : Registry) : Type 0 where
+  pub size : length w ≡ s.ranks
+  pub parts : length g.ranks ≡ s.ranks
+  pub fits : (r : ℕ) → r < s.ranks → RankFits s g r (rank_at w r) (part_of g r)
+  pub waited : (n : ℕ) → n < length g.creations → is_none (row_of g n).outcome ≡ true → Waited s g n

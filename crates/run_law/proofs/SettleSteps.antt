@@ -1,0 +1,171 @@
+-- Each settle is a step that the registry does not see, or a pick.
+use Rattle.std.proofs.Common.{◌≡◌, ◌≢◌, ◌⊎◌, ℕ, zero, suc, ◌+◌, ◌<◌, ◌≤◌, ◌==◌, ◌&&◌, ◌||◌, not, nat_lt, nat_le, if◌then◌else◌, Bool, true, false, List, [], ◌∷◌, ◌++◌, length, get_or, set, Option, Some, None, refl, sym, ap, subst, inl, inr, arith, length-set}
+use Rattle.std.specs.Option.{is_none}
+use Rattle.std.proofs.lemmas.Bool.Decides.{nat_tests}
+use Rattle.mpi_base.specs.declared.keys.Key.{Key}
+use Rattle.mpi_base.specs.MemberLists.{has_rank}
+use Rattle.mpi_base.proofs.KeyFacts.{same_key-refl}
+use Rattle.mpi_law.specs.declared.setting.Setting.{Setting}
+use Rattle.mpi_law.specs.Registry.{Registry, Event, RankPart, Communicator, Outcome, Made, NoneFree, blank_comm, blank_creation, in_use, undecided_place, with_outcome, decide, part_of, registry_next, registry_after, IsRegistryRun}
+use Rattle.mpi_protocol.specs.declared.rows.Outcome.TheVariants as ended
+use Rattle.mpi_protocol.specs.declared.rows.Verdict.{Verdict}
+use Rattle.mpi_protocol.specs.declared.rows.Verdict.TheVariants.{Ready, Retry, Context, Exhausted}
+use Rattle.mpi_protocol.specs.Rank.{Rank, Offer, round_of, session_of}
+use Rattle.mpi_protocol.specs.Agreement.{let_go, is_first, is_ready, all_own, picked, least_common, verdict_of}
+use Rattle.mpi_protocol.specs.Step.{settled, said_of}
+use Rattle.mpi_protocol.specs.World.{rank_at}
+use Rattle.mpi_protocol.specs.Run.{pick_events}
+use Rattle.run_law.proofs.Lists.{set_place, get_or_past, get_or-append, get_or-last, length-snoc}
+use Rattle.run_law.proofs.Fits.{row_of, RankFits, Waited, Joined}
+use Rattle.run_law.proofs.Grown.{Grows, joined_step}
+use Rattle.run_law.proofs.Settles.{is_key-let_go, settling, settling_undone, waiting_kept, not_owned_yet}
+use Rattle.run_law.proofs.Decides.{Deciding, deciding}
+use Rattle.run_law.proofs.Picks.{may_pick, free_context, none_free, decided_rows, decided_kept}
+
+-- the events may come, and what they leave belongs to these ranks
+abbrev pub Goes : Setting → Registry → List Event → List Rank → Type 0
+Goes s g es w = IsRegistryRun s g es × Joined s w (registry_after s g es)
+
+-- What a verdict tells
+
+verdict_pick : (n : ℕ) (gathered : List Offer) (key : Key) (i : ℕ) (o : Option ℕ) → verdict_of n gathered key i ≡ picked o → (all_own gathered key ≡ true) × (least_common n gathered key ≡ o)
+verdict_pick n gathered key i o e = go (i == 0) (all_own gathered key) (least_common n gathered key) refl e
+  where
+    tells : (a b : Option ℕ) → picked a ≡ picked b → a ≡ b
+    tells None None h = refl
+    tells None (Some c) h = absurd (cc (h))
+    tells (Some a) None h = absurd (cc (h))
+    tells (Some a) (Some b) h = cc (h)
+
+    not_ready : (b : Option ℕ) → Ready ≡ picked b → ⊥
+    not_ready None h = cc (h)
+    not_ready (Some c) h = cc (h)
+
+    not_retry : (b : Option ℕ) → Retry ≡ picked b → ⊥
+    not_retry None h = cc (h)
+    not_retry (Some c) h = cc (h)
+
+    go : (z a : Bool) (l : Option ℕ) → least_common n gathered key ≡ l → (if z then Ready else (if a then picked l else Retry)) ≡ picked o → (a ≡ true) × (l ≡ o)
+    go true a l q h = absurd (not_ready o h)
+    go false true l q h = (refl, tells l o h)
+    go false false l q h = absurd (not_retry o h)
+
+verdict_ready : (n : ℕ) (gathered : List Offer) (key : Key) (i : ℕ) → verdict_of n gathered key i ≡ Ready → i ≡ 0
+verdict_ready n gathered key i e = go (i == 0) (all_own gathered key) (least_common n gathered key) refl e
+  where
+    go : (z a : Bool) (l : Option ℕ) → (i == 0) ≡ z → (if z then Ready else (if a then picked l else Retry)) ≡ Ready → i ≡ 0
+    go true a l q h = grind (arith, nat_tests, q)
+    go false true None q h = absurd (cc (h))
+    go false true (Some c) q h = absurd (cc (h))
+    go false false l q h = absurd (cc (h))
+
+-- Contexts in use
+
+pub in_use-append : (comms : List Communicator) (m : Communicator) (r c : ℕ) → in_use (comms ++ m ∷ []) r c ≡ (in_use comms r c || ((m.ctx == c) && has_rank m.members r))
+in_use-append [] m r c = grind (arith)
+in_use-append (x ∷ xs) m r c = let ih = in_use-append xs m r c in grind (arith, ih)
+
+only_self : (r q : ℕ) → has_rank (r ∷ []) q ≡ (r == q)
+only_self r q = grind (arith)
+
+-- What a pick leaves of the rest
+
+picked_grows : (s : Setting) (g : Registry) (r : ℕ) (x : Rank) (p : RankPart) (key : Key) (out : Outcome) (more : List Communicator) → Deciding g r x p key → length g.comms ≤ length more → ((i : ℕ) → i < length g.comms → get_or more i blank_comm ≡ get_or g.comms i blank_comm)
+    → ((q c : ℕ) → q ≢ r → in_use more q c ≡ in_use g.comms q c) → Grows g (record { comms = more; creations = decide g key out; ranks = g.ranks }) r
+picked_grows s g r x p key out more d l stay uses = record {
+  more_comms = l;
+  comms_stay = stay;
+  more_rows = (let e = length-set g.creations (undecided_place g.creations key.members key.tag) (with_outcome (row_of g (undecided_place g.creations key.members key.tag)) out) in omega (arith, e));
+  rows_stay = λ n lt other. go n other (decided_rows g key d.waiter.place n out d.place d.waiter.fits.there);
+  uses_stay = uses;
+}
+  where
+    go : (n : ℕ) → ((row_of g n).group ≡ r ∷ [] → ⊥) → ((n ≡ d.waiter.place) × (get_or (decide g key out) n blank_creation ≡ with_outcome (row_of g d.waiter.place) out)) ⊎ ((n ≢ d.waiter.place) × (get_or (decide g key out) n blank_creation ≡ row_of g n)) → get_or (decide g key out) n blank_creation ≡ row_of g n
+    go n other (inl a) = absurd (other (subst (λ (i : ℕ). (row_of g i).group ≡ r ∷ []) (sym a.0) d.waiter.fits.alone))
+    go n other (inr a) = a.1
+
+picked_waited : (s : Setting) (w : List Rank) (g : Registry) (r : ℕ) (x : Rank) (p : RankPart) (key : Key) (out : Outcome) (more : List Communicator) → Joined s w g → Deciding g r x p key
+    → (n : ℕ) → n < length (decide g key out) → is_none (get_or (decide g key out) n blank_creation).outcome ≡ true → Waited s (record { comms = more; creations = decide g key out; ranks = g.ranks }) n
+picked_waited s w g r x p key out more j d n lt open_row =
+    go (decided_rows g key d.waiter.place n out d.place d.waiter.fits.there)
+  where
+    inside : n < length g.creations
+    inside = let e = length-set g.creations (undecided_place g.creations key.members key.tag) (with_outcome (row_of g (undecided_place g.creations key.members key.tag)) out) in omega (arith, e, lt)
+
+    again : Waited s g n → Waited s (record { comms = more; creations = decide g key out; ranks = g.ranks }) n
+    again v = record { rank = v.rank; thread = v.thread; rank_in = v.rank_in; thread_in = v.thread_in; waits = v.waits }
+
+    go : ((n ≡ d.waiter.place) × (get_or (decide g key out) n blank_creation ≡ with_outcome (row_of g d.waiter.place) out)) ⊎ ((n ≢ d.waiter.place) × (get_or (decide g key out) n blank_creation ≡ row_of g n)) → Waited s (record { comms = more; creations = decide g key out; ranks = g.ranks }) n
+    go (inl a) = absurd (let z : is_none (with_outcome (row_of g d.waiter.place) out).outcome ≡ true = rw a.1 at open_row in cc (z))
+    go (inr a) = again (j.waited n inside (rw a.1 at open_row))
+
+set_self : {A : Type 0} (xs : List A) (i : ℕ) (d : A) → set xs i (get_or xs i d) ≡ xs
+set_self [] i d = refl
+set_self (x ∷ xs) zero d = refl
+set_self (x ∷ xs) (suc i) d = ap (λ ys. x ∷ ys) (set_self xs i d)
+
+pub unmoved : (g : Registry) (r : ℕ) → Grows g g r
+unmoved g r = record { more_comms = omega arith; comms_stay = λ p lt. refl; more_rows = omega arith; rows_stay = λ n lt other. refl; uses_stay = λ q c ne. refl }
+
+-- the registry sees nothing of a step that keeps its rank fitting
+pub unseen : (s : Setting) (w : List Rank) (g : Registry) (r : ℕ) (y : Rank) → Joined s w g → r < s.ranks → RankFits s g r y (part_of g r) → Joined s (set w r y) g
+unseen s w g r y j lt f = joined_step s w g g r y (part_of g r) j lt (sym (set_self g.ranks r _)) (unmoved g r) f j.waited
+
+-- A settle
+
+pub settle_goes : (s : Setting) (w : List Rank) (g : Registry) (r : ℕ) (key : Key) → Joined s w g → r < s.ranks → is_first (rank_at w r).rank key.members ≡ true → is_ready (rank_at w r).gathered key ≡ true → (v : Verdict)
+    → verdict_of (rank_at w r).setting.contexts (rank_at w r).gathered key (round_of (rank_at w r).rounds key) ≡ v → Goes s g (pick_events r key (Some (said_of v))) (set w r (settled (rank_at w r) key (round_of (rank_at w r).rounds key) v).state)
+unfolding registry_next
+settle_goes s w g r key j lt first ready Ready e =
+    let x = rank_at w r in
+    let f = j.fits r lt in
+    let q = settling x key f.offers first ready in
+    (tt, unseen s w g r _ j lt (waiting_kept s g r x (part_of g r) key 1 x.owner (settling_undone x key q) (omega arith) (λ k n. refl) (not_owned_yet s g r x (part_of g r) key f (verdict_ready x.setting.contexts x.gathered key (round_of x.rounds key) e)) f))
+settle_goes s w g r key j lt first ready Retry e =
+    let x = rank_at w r in
+    let f = j.fits r lt in
+    let q = settling x key f.offers first ready in
+    (tt, unseen s w g r _ j lt (waiting_kept s g r x (part_of g r) key (round_of x.rounds key + 1) (let_go x.owner key) (settling_undone x key q) (omega arith) (λ k n. let l = is_key-let_go x.owner key k in grind (arith, l, n)) (let l = is_key-let_go x.owner key key in let r = same_key-refl key in grind (arith, l, r)) f))
+settle_goes s w g r key j lt first ready (Context c) e =
+    let x = rank_at w r in
+    let f = j.fits r lt in
+    let q = settling x key f.offers first ready in
+    let d = deciding s w g r key j lt (settling_undone x key q) in
+    let v = verdict_pick x.setting.contexts x.gathered key (round_of x.rounds key) (Some c) e in
+    let common = subst (λ (z : Setting). least_common z.contexts x.gathered key ≡ Some c) f.setting v.1 in
+    let made : Communicator = record { ctx = c; members = key.members } in
+    let more = g.comms ++ made ∷ [] in
+    let new : Registry = record { comms = more; creations = decide g key (Made (length g.comms)); ranks = g.ranks } in
+    let grows = picked_grows s g r x (part_of g r) key (Made (length g.comms)) more d (omega (arith, length-snoc g.comms made)) (λ i li. get_or-append g.comms made blank_comm i li) (λ i b ne. other_uses c i b d.members ne) in
+    let kept = decided_kept s g new r x (part_of g r) key d q v.0 (Made (length g.comms)) (ended.Context c) refl grows (omega (arith, length-snoc g.comms made), get_or-last g.comms made blank_comm) f (set x.mask c false) (x.comms ++ record { ctx = c; members = key.members; session = session_of x.threads key } ∷ []) (λ b. bits c b d.members f) in (
+      ((may_pick s g r x (part_of g r) key d, free_context s g r x (part_of g r) key c f d.members q v.0 common), tt),
+      joined_step s w g new r _ (part_of g r) j lt (sym (set_self g.ranks r _)) grows kept (picked_waited s w g r x (part_of g r) key (Made (length g.comms)) more j d),
+    )
+  where
+    other_uses : (c i b : ℕ) → key.members ≡ r ∷ [] → i ≢ r → in_use (g.comms ++ record { ctx = c; members = key.members } ∷ []) i b ≡ in_use g.comms i b
+    other_uses c i b members ne =
+        let a = in_use-append g.comms (record { ctx = c; members = key.members }) i b in
+        let o : has_rank key.members i ≡ false = rw members (grind (arith, nat_tests, ne)) in
+        grind (arith, a, o)
+
+    bits : (c b : ℕ) → key.members ≡ r ∷ [] → RankFits s g r (rank_at w r) (part_of g r) → get_or (set (rank_at w r).mask c false) b false ≡ (nat_lt 0 b && (nat_le b s.contexts && not (in_use (g.comms ++ record { ctx = c; members = key.members } ∷ []) r b)))
+    bits c b members f =
+        let a = in_use-append g.comms (record { ctx = c; members = key.members }) r b in
+        let o : has_rank key.members r ≡ true = rw members (grind (arith, nat_tests)) in
+        let m = f.mask b in
+        let p = set_place (rank_at w r).mask c false false b in
+        let past = get_or_past (rank_at w r).mask b false in
+        grind (arith, nat_tests, a, o, m, p, past)
+settle_goes s w g r key j lt first ready Exhausted e =
+    let x = rank_at w r in
+    let f = j.fits r lt in
+    let q = settling x key f.offers first ready in
+    let d = deciding s w g r key j lt (settling_undone x key q) in
+    let v = verdict_pick x.setting.contexts x.gathered key (round_of x.rounds key) None e in
+    let common = subst (λ (z : Setting). least_common z.contexts x.gathered key ≡ None) f.setting v.1 in
+    let new : Registry = record { comms = g.comms; creations = decide g key NoneFree; ranks = g.ranks } in
+    let grows = picked_grows s g r x (part_of g r) key NoneFree g.comms d (omega arith) (λ i li. refl) (λ i b ne. refl) in
+    let kept = decided_kept s g new r x (part_of g r) key d q v.0 NoneFree ended.Exhausted refl grows tt f x.mask x.comms f.mask in (
+      ((may_pick s g r x (part_of g r) key d, none_free s g r x (part_of g r) key f d.members q v.0 common), tt),
+      joined_step s w g new r _ (part_of g r) j lt (sym (set_self g.ranks r _)) grows kept (picked_waited s w g r x (part_of g r) key NoneFree g.comms j d),
+    )

@@ -1,0 +1,11 @@
+use Rattle.run_law.proofs.Ended.{picks_end, replies_end, calls_end}
+use Rattle.run_law.proofs.closed_is_the_end.Goals as goal
+
+pub returns-clause-picks : goal.returns-clause-picks
+returns-clause-picks c = picks_end
+
+pub returns-clause-replies : goal.returns-clause-replies
+returns-clause-replies c = replies_end
+
+pub returns-clause-calls : goal.returns-clause-calls
+returns-clause-calls c = calls_end

@@ -1,0 +1,29 @@
+-- One script on one rank, and how many steps of the drain it still takes at most.
+use Rattle.std.specs.Prelude.{◌≡◌, ℕ, ◌+◌, ◌-◌, ◌*◌, ◌≤◌, List, [], length, Option, Some, None}
+use Rattle.mpi_base.specs.declared.ops.Op.{Op}
+use Rattle.mpi_law.specs.ScriptLists.{AllScripts, script_of}
+use Rattle.mpi_protocol.specs.declared.rows.Stage.{Stage}
+use Rattle.mpi_protocol.specs.declared.rows.Stage.TheVariants.{Called, Waiting, Offered, Done}
+use Rattle.mpi_protocol.specs.declared.rows.Waits.{Waits}
+use Rattle.mpi_protocol.specs.declared.rows.Waits.TheVariants.{Nothing, Creation}
+use Rattle.mpi_protocol.specs.Rank.{Rank, stage_of, thread_at}
+
+-- thread 0 of rank 0 alone has a script
+abbrev pub IsSolo : AllScripts → Type 0
+IsSolo scripts = (t : ℕ) → 1 ≤ t → script_of scripts 0 t ≡ []
+
+-- a creation's settles, offer and answer that are still to come
+abbrev pub stage_steps : Option Stage → ℕ
+stage_steps None = 0
+stage_steps (Some Called) = 4
+stage_steps (Some (Waiting i)) = 3
+stage_steps (Some (Offered i own)) = 2
+stage_steps (Some (Done o)) = 1
+
+abbrev pub waits_steps : Rank → Waits → ℕ
+waits_steps x Nothing = 0
+waits_steps x (Creation key target session) = stage_steps (stage_of x.opened key)
+
+-- five steps for each operation that is not called, and those of the open creation
+unfoldable pub steps_left : List Op → Rank → ℕ
+steps_left script x = 5 * (length script - (thread_at x 0).calls) + waits_steps x (thread_at x 0).waits
