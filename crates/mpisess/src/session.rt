@@ -127,6 +127,12 @@ impl From<OutOfMemory> for Status {
 
 /// A session of the program: reads a script for one rank, runs it to its end, and writes its journal,
 /// one line a step. The words are those of the command line behind the program's name.
+///
+/// The script has at most 4,194,304 bytes and 4,096 lines; the world has one rank and 63 contexts. Its
+/// operations are those of the Sessions model (MPI 4.0, 11.3): sessions, the groups of process sets and
+/// communicators from groups. The source is read to its end before anything is run, and the sink is
+/// written when the run is over. The status tells how it ended; `Memory` alone is tied to no cause. Of
+/// a source or a sink that does not tell its bytes no clause about bytes says anything.
 pub fn mpisess_calm<S: Source, K: Sink>(
     alloc: Global,
     words: &[String],
