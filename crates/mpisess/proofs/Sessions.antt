@@ -92,14 +92,14 @@ solo_run scripts journal solo calls drained quiet registry closed =
       closed = subst (λ (s : AllScripts). is_closed solo_setting s (registry_after solo_setting (registry_opening solo_setting) (events_of journal)) ≡ true) same closed;
     }
 
--- the session went well
-abbrev pub is_fine : Status → Bool
-is_fine Fine = true
-is_fine Usage = false
-is_fine BadJob = false
-is_fine ReadFault = false
-is_fine WriteFault = false
-is_fine Memory = false
+-- the sink failed
+abbrev pub is_write_fault : Status → Bool
+is_write_fault Fine = false
+is_write_fault Usage = false
+is_write_fault BadJob = false
+is_write_fault ReadFault = false
+is_write_fault WriteFault = true
+is_write_fault Memory = false
 
 -- only a script that is not built makes a bad job
 not_built : (e : ScriptError) → BadJob ≡ status_of_script e → e ≡ script.NotBuilt
