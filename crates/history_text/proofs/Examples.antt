@@ -4,7 +4,7 @@ use Rattle.std.proofs.lemmas.Fmt.{decimal_digit}
 use Rattle.mpi_base.specs.declared.errors.ErrClass.TheVariants as class
 use Rattle.mpi_base.specs.declared.keys.Kind.TheVariants as kind
 use Rattle.mpi_base.specs.declared.keys.Key.{Key}
-use Rattle.mpi_base.specs.declared.ops.Op.TheVariants.{Session, Pset, Create}
+use Rattle.mpi_base.specs.declared.ops.Op.TheVariants.{Session, Pset, Create, Dup}
 use Rattle.mpi_base.specs.declared.ops.Reply.{Reply}
 use Rattle.mpi_base.specs.declared.ops.Reply.TheVariants.{Fine, Refused, Group, Comm}
 use Rattle.mpi_base.specs.declared.entries.Act.{Act}
@@ -46,11 +46,17 @@ pset_line = rw zero_digit refl
 create_line : entry_text (entry 0 (Call 0 (Create (codes "g") (codes "a") (codes "c"))) None None) ≡ codes "0 call 0 create g \"a\" -> c"
 create_line = rw zero_digit refl
 
+dup_line : entry_text (entry 0 (Call 0 (Dup (codes "c") (codes "d"))) None None) ≡ codes "0 call 0 dup c -> d"
+dup_line = rw zero_digit refl
+
 ready_line : entry_text (entry 0 (Settle (from (codes "a") (0 ∷ []))) (Some Ready) None) ≡ codes "0 settle from \"a\" [0] # ready"
 ready_line = rw zero_digit refl
 
 own_line : entry_text (entry 0 (Offer (from (codes "a") (0 ∷ []))) (Some Own) None) ≡ codes "0 offer from \"a\" [0] # own"
 own_line = rw zero_digit refl
+
+dup_own_line : entry_text (entry 0 (Offer (dup 1 0 (0 ∷ []))) (Some Own) None) ≡ codes "0 offer dup 1 0 [0] # own"
+dup_own_line = rw (zero_digit, one_digit) refl
 
 picked_line : entry_text (entry 0 (Settle (from (codes "a") (0 ∷ []))) (Some (Picked 1)) None) ≡ codes "0 settle from \"a\" [0] # pick ctx=1"
 picked_line = rw (zero_digit, one_digit) refl

@@ -4,7 +4,7 @@ use Rattle.std.proofs.lemmas.Bool.Decides.{nat_tests}
 use Rattle.std.proofs.lemmas.Option.{get_or_from_slice_get}
 use Rattle.std.specs.List.{join_with_byte}
 use Rattle.mpi_base.specs.declared.ops.Op.{Op}
-use Rattle.mpi_base.specs.declared.ops.Op.TheVariants.{Session, Pset, Create}
+use Rattle.mpi_base.specs.declared.ops.Op.TheVariants.{Session, Pset, Create, Dup}
 use Rattle.mpi_base.specs.declared.entries.Said.TheVariants.{Exhausted}
 use Rattle.mpi_base.specs.declared.entries.Entry.{Entry}
 use Rattle.script_text.specs.Spelling.{in_line, quoted_text, tokens_of, line_of}
@@ -25,6 +25,7 @@ pub op_spaced : (op : Op) → spaced_text (tokens_of op) ≡ 32 ∷ line_of op
 op_spaced (Session n) = ap (λ (r : List ℕ). 32 ∷ r) (sym (line_from (codes "session") (n ∷ [])))
 op_spaced (Pset s p g) = ap (λ (r : List ℕ). 32 ∷ r) (sym (line_from (codes "pset") (s ∷ p ∷ codes "->" ∷ g ∷ [])))
 op_spaced (Create g t c) = ap (λ (r : List ℕ). 32 ∷ r) (sym (line_from (codes "create") (g ∷ quoted_text t ∷ codes "->" ∷ c ∷ [])))
+op_spaced (Dup c d) = ap (λ (r : List ℕ). 32 ∷ r) (sym (line_from (codes "dup") (c ∷ codes "->" ∷ d ∷ [])))
 
 -- spaces before the tokens of two lists
 spaced-append : (xs ys : List (List ℕ)) → spaced_text (xs ++ ys) ≡ spaced_text xs ++ spaced_text ys

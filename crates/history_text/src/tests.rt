@@ -32,13 +32,13 @@ fn from(rt: &impl Abort, text: &[u8], rank: u16) -> Key {
     }
 }
 
-fn numbered(rt: &impl Abort, kind: Kind, parent: u16, number: u64) -> Key {
+fn numbered(rt: &impl Abort, kind: Kind, parent: u16, number: u64, ranks: &[u16]) -> Key {
     Key {
         parent,
         kind,
         number,
         tag: tag(rt, b""),
-        members: members(&[0, 1]),
+        members: members(ranks),
     }
 }
 
@@ -121,7 +121,7 @@ fn offers_are_written(rt: HostRuntime) {
         b"3 offer from \"\" [3] # zero",
     );
     let act = Act::Offer {
-        key: numbered(&rt, Kind::Group, 12, 18_446_744_073_709_551_615),
+        key: numbered(&rt, Kind::Group, 12, 18_446_744_073_709_551_615, &[0, 1]),
     };
     is_line(
         &rt,
@@ -166,7 +166,7 @@ fn settles_are_written(rt: HostRuntime) {
         ),
     ] {
         let act = Act::Settle {
-            key: numbered(&rt, kind, 1, 0),
+            key: numbered(&rt, kind, 1, 0, &[0, 1]),
         };
         is_line(&rt, 0, act, Some(said), None, line);
     }
@@ -189,4 +189,39 @@ fn answers_are_written(rt: HostRuntime) {
     let refused = Reply::Refused(ErrClass::Truncate);
     is_answer(&rt, refused, b"0 answer 0 => err MPI_ERR_TRUNCATE");
     is_answer(&rt, Reply::Null, b"0 answer 0 => null");
+}
+
+#[test]
+fn a_duplicate_is_written(rt: HostRuntime) {
+    let act = Act::Call {
+        thread: 0,
+        op: Op::Dup(name(&rt, b"c"), name(&rt, b"d")),
+    };
+    is_line(&rt, 0, act, None, None, b"0 call 0 dup c -> d");
+    let key = numbered(&rt, Kind::Dup, 1, 0, &[0]);
+    for (act, said, line) in [
+        (
+            Act::Settle { key: key.copy() },
+            Said::Ready,
+            b"0 settle dup 1 0 [0] # ready".as_slice(),
+        ),
+        (
+            Act::Offer { key: key.copy() },
+            Said::Own,
+            b"0 offer dup 1 0 [0] # own".as_slice(),
+        ),
+        (
+            Act::Settle { key: key.copy() },
+            Said::Picked(2),
+            b"0 settle dup 1 0 [0] # pick ctx=2".as_slice(),
+        ),
+    ] {
+        is_line(&rt, 0, act, Some(said), None, line);
+    }
+    let comm = Reply::Comm {
+        ctx: 2,
+        rank: 0,
+        size: 1,
+    };
+    is_answer(&rt, comm, b"0 answer 0 => comm ctx=2 rank=0 size=1");
 }

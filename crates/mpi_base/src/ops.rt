@@ -15,6 +15,8 @@ pub enum Op {
     Pset(Name, PsetName, Name),
     /// A communicator from a group and a string tag (MPI 4.0, 7.4.2).
     Create(Name, StringTag, Name),
+    /// A duplicate of a communicator (MPI 4.0, 7.4.2).
+    Dup(Name, Name),
 }
 
 impl Op {
@@ -26,6 +28,7 @@ impl Op {
             Op::Session(target) => Op::Session(target.copy()),
             Op::Pset(session, set, target) => Op::Pset(session.copy(), set.copy(), target.copy()),
             Op::Create(group, tag, target) => Op::Create(group.copy(), tag.copy(), target.copy()),
+            Op::Dup(comm, target) => Op::Dup(comm.copy(), target.copy()),
         }
     }
 }

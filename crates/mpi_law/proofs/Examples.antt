@@ -1,16 +1,16 @@
--- The registry of one rank: a session, its group and a communicator; and what calls are refused.
-use Rattle.std.proofs.Common.{◌≡◌, ℕ, true, false, List, [], ◌∷◌, ◌++◌, replicate, Some, codes, refl, lit≤, lit<}
+-- The registry of one rank: a session, its group, a communicator and its duplicate; and what calls are refused.
+use Rattle.std.proofs.Common.{◌≡◌, ℕ, true, false, List, [], ◌∷◌, ◌++◌, replicate, Some, None, codes, refl, lit≤, lit<}
 use Rattle.mpi_base.specs.declared.keys.Key.{Key}
 use Rattle.mpi_base.specs.declared.keys.Kind.TheVariants as kind
 use Rattle.mpi_base.specs.declared.ops.Op.{Op}
 use Rattle.mpi_base.specs.declared.ops.Op.TheVariants as op
 use Rattle.mpi_base.specs.declared.ops.Reply.TheVariants as reply
 use Rattle.mpi_base.specs.declared.errors.ErrClass.TheVariants as class
-use Rattle.mpi_law.specs.declared.rows.Bound.TheVariants.{Session, Group}
+use Rattle.mpi_law.specs.declared.rows.Bound.TheVariants.{Session, Group, Comm}
 use Rattle.mpi_law.specs.declared.setting.Setting.{Setting}
 use Rattle.mpi_law.specs.ScriptLists.{AllScripts}
-use Rattle.mpi_law.specs.Local.{Local, Effect, Says, bind, effect_of}
-use Rattle.mpi_law.specs.Registry.{Registry, Event, Calls, Picks, Replies, registry_opening, registry_next, registry_after, IsRegistryRun}
+use Rattle.mpi_law.specs.Local.{Local, Effect, Says, Duplicated, bind, effect_of}
+use Rattle.mpi_law.specs.Registry.{Registry, Event, Calls, Picks, Replies, Nth_dup, name_of, stands_for, in_use, registry_opening, registry_next, registry_after, IsRegistryRun}
 use Rattle.mpi_law.specs.Closed.{is_closed}
 
 -- one rank
@@ -59,7 +59,7 @@ seven_are_a_run = (
         (
           record { rank = lit< tt; thread = lit< tt; idle = refl; reply = refl },
           (
-            (record { named = refl; there = lit< tt; all = refl }, record { above = lit≤ tt; below = lit≤ tt; unused = refl }),
+            (record { there = lit< tt; members = refl; all = refl }, record { above = lit≤ tt; below = lit≤ tt; unused = refl }),
             (
               refl,
               tt,
@@ -90,6 +90,54 @@ six_do_not_close : is_closed one scripts (registry_after one start six) ≡ fals
 unfolding registry_next effect_of is_closed
 six_do_not_close = refl
 
+-- A duplicate
+
+abbrev dup : Op
+dup = op.Dup (codes "c") (codes "d")
+
+abbrev dup_key : Key
+dup_key = record { parent = 1; kind = kind.Dup; number = 0; tag = []; members = 0 ∷ [] }
+
+-- the call of a duplicate, its pick and the communicator
+abbrev three : List Event
+three = Calls 0 0 dup false ∷ Picks 0 dup_key (Some 2) ∷ Replies 0 0 (reply.Comm 2 0 1) ∷ []
+
+abbrev after_seven : Registry
+after_seven = registry_after one start seven
+
+-- they go on with the run
+three_go_on : IsRegistryRun one after_seven three
+unfolding registry_next effect_of
+three_go_on = (
+  record { rank = lit< tt; thread = lit< tt; idle = refl; reply = refl },
+  (
+    (record { there = lit< tt; members = refl; all = refl }, record { above = lit≤ tt; below = lit≤ tt; unused = refl }),
+    (
+      refl,
+      tt,
+    ),
+  ),
+)
+
+-- the key stands for the first duplicate of the first communicator, and for nothing at a rank that is no member
+dup_key_stands : stands_for after_seven.comms 0 dup_key ≡ Some (Nth_dup 0 0)
+unfolding registry_next effect_of
+dup_key_stands = refl
+
+dup_key_elsewhere : stands_for after_seven.comms 1 dup_key ≡ None
+unfolding registry_next effect_of
+dup_key_elsewhere = refl
+
+-- the next duplicate of it has another name
+next_dup : name_of (registry_after one after_seven three) 0 (Duplicated 0) ≡ Nth_dup 0 1
+unfolding registry_next effect_of
+next_dup = refl
+
+-- a context that is in use is not free
+context_in_use : in_use after_seven.comms 0 1 ≡ true
+unfolding registry_next effect_of
+context_in_use = refl
+
 -- What calls are answered
 
 -- no name, and no session
@@ -103,6 +151,10 @@ groups =
       names = bind (bind (bind [] (codes "s") (Session 1)) (codes "g") (Group (0 ∷ []) 1)) (codes "e") (Group [] 1);
       sessions = 1;
     }
+
+-- a communicator of session 1
+abbrev communicator : Local
+communicator = record { names = bind [] (codes "c") (Comm 0 1); sessions = 1 }
 
 -- a call at a rank where no creation is open
 abbrev answer : ℕ → Local → Op → Effect
@@ -152,6 +204,19 @@ create_on_bound = refl
 create_while_open : effect_of one 0 (λ group tag. true) groups create ≡ Says groups (reply.Refused class.Busy)
 unfolding effect_of
 create_while_open = refl
+
+-- a duplicate of nothing, of a group, and under a name that is bound
+dup_on_nothing : answer 0 nothing dup ≡ Says nothing (reply.Refused class.Comm)
+unfolding effect_of
+dup_on_nothing = refl
+
+dup_on_group : answer 0 groups (op.Dup (codes "g") (codes "s")) ≡ Says groups (reply.Refused class.Comm)
+unfolding effect_of
+dup_on_group = refl
+
+dup_on_bound : answer 0 communicator (op.Dup (codes "c") (codes "c")) ≡ Says communicator (reply.Refused class.Arg)
+unfolding effect_of
+dup_on_bound = refl
 
 -- a creation from the empty group makes no communicator
 create_from_empty : answer 0 groups (op.Create (codes "e") (codes "a") (codes "c")) ≡ Says groups reply.Null

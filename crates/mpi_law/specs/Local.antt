@@ -70,10 +70,23 @@ set_members s rank set =
     if bytes_eq set self_set then Some (rank ∷ [])
     else (if bytes_eq set (codes "mpi://WORLD") then Some (range_with_len 0 s.ranks) else None)
 
--- a creation that a caller asks for (MPI 4.0, 7.4.2): the ordered group, the string tag, the name to bind and the session
+-- a communicator that is there, and its session
+abbrev pub as_comm : Option Bound → Result (ℕ × ℕ) ErrClass
+as_comm None = Err class.Comm
+as_comm (Some Reserved) = Err class.Comm
+as_comm (Some (Session s)) = Err class.Comm
+as_comm (Some (Group ms s)) = Err class.Comm
+as_comm (Some (Comm c s)) = Ok (c, s)
+
+-- what a new communicator comes from (MPI 4.0, 7.4.2): an ordered group and a string tag, or a communicator
+-- that is duplicated
+pub data Origin : Type 0 where
+  Grouped : List ℕ → List ℕ → Origin
+  Duplicated : ℕ → Origin
+
+-- a creation that a caller asks for: what it comes from, the name to bind and the session
 pub record Asked : Type 0 where
-  pub group : List ℕ
-  pub tag : List ℕ
+  pub origin : Origin
   pub target : List ℕ
   pub session : ℕ
 
@@ -96,11 +109,15 @@ call_pset s rank l session set target =
     and_then (refuse_if (is_some (bound_of l.names target)) class.Arg) (λ q.
     Ok (Says (record { names = bind l.names target (Group members from); sessions = l.sessions }) (reply.Group members)))))
 
--- a communicator from a group: the empty group gives none, any other holds the target until the answer
+-- a creation holds its target until the answer
+abbrev pub ask : Local → Origin → List ℕ → ℕ → Effect
+ask l origin target session =
+    Joins (record { names = bind l.names target Reserved; sessions = l.sessions }) (record { origin = origin; target = target; session = session })
+
+-- a communicator from a group: the empty group gives none
 abbrev pub begin_creation : Local → List ℕ → ℕ → List ℕ → List ℕ → Effect
 begin_creation l [] session tag target = Says l reply.Null
-begin_creation l (m ∷ ms) session tag target =
-    Joins (record { names = bind l.names target Reserved; sessions = l.sessions }) (record { group = m ∷ ms; tag = tag; target = target; session = session })
+begin_creation l (m ∷ ms) session tag target = ask l (Grouped (m ∷ ms) tag) target session
 
 -- whether a group that is not empty lacks the caller
 abbrev pub lacks : List ℕ → ℕ → Bool
@@ -115,6 +132,13 @@ call_create rank busy l group tag target =
     and_then (refuse_if (busy g.0 tag) class.Busy) (λ q''.
     Ok (begin_creation l g.0 g.1 tag target)))))
 
+-- a duplicate of a communicator, in the session of the communicator
+abbrev pub call_dup : Local → List ℕ → List ℕ → Result Effect ErrClass
+call_dup l comm target =
+    and_then (as_comm (bound_of l.names comm)) (λ c.
+    and_then (refuse_if (is_some (bound_of l.names target)) class.Arg) (λ q.
+    Ok (ask l (Duplicated c.0) target c.1)))
+
 -- a refused call changes nothing
 abbrev pub refusal : Local → Result Effect ErrClass → Effect
 refusal l (Ok e) = e
@@ -125,6 +149,7 @@ unfoldable pub effect_of : Setting → ℕ → (List ℕ → List ℕ → Bool) 
 effect_of s rank busy l (op.Session target) = refusal l (call_session l target)
 effect_of s rank busy l (op.Pset session set target) = refusal l (call_pset s rank l session set target)
 effect_of s rank busy l (op.Create group tag target) = refusal l (call_create rank busy l group tag target)
+effect_of s rank busy l (op.Dup comm target) = refusal l (call_dup l comm target)
 
 -- whether the reply comes at once
 abbrev pub is_said : Effect → Bool

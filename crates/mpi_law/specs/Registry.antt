@@ -1,5 +1,5 @@
 -- The central registry: what MPI 4.0 says of sessions, groups and communicators, kept in one place.
-use Rattle.std.specs.Prelude.{◌≡◌, ℕ, suc, ◌+◌, ◌<◌, ◌≤◌, ◌==◌, ◌&&◌, Bool, true, false, if◌then◌else◌, List, [], ◌∷◌, ◌++◌, length, get_or, set, replicate, position, Option, Some, None, is_none, unwrap_or, bytes_eq}
+use Rattle.std.specs.Prelude.{◌≡◌, ℕ, suc, ◌+◌, ◌<◌, ◌≤◌, ◌==◌, ◌&&◌, Bool, true, false, if◌then◌else◌, List, [], ◌∷◌, ◌++◌, length, get_or, set, replicate, position, Option, Some, None, is_none, unwrap_or, bytes_eq, filter, option_map}
 use Rattle.std.specs.List.{list_any, list_all}
 use Rattle.mpi_base.specs.MemberLists.{has_rank}
 use Rattle.mpi_base.specs.declared.keys.Key.{Key}
@@ -12,7 +12,7 @@ use Rattle.mpi_base.specs.declared.errors.ErrClass.TheVariants as class
 use Rattle.mpi_law.specs.declared.rows.Bound.TheVariants.{Comm}
 use Rattle.mpi_law.specs.declared.setting.Setting.{Setting}
 use Rattle.mpi_law.specs.declared.setting.TheConstants.{THREADS}
-use Rattle.mpi_law.specs.Local.{Local, Effect, Says, Joins, effect_of, is_said, rebind, unbind}
+use Rattle.mpi_law.specs.Local.{Local, Effect, Says, Joins, Origin, Grouped, Duplicated, effect_of, is_said, rebind, unbind}
 
 -- a communicator, named by its place in the registry's list
 pub record Communicator : Type 0 where
@@ -31,10 +31,16 @@ pub data Outcome : Type 0 where
   Made : ℕ → Outcome
   NoneFree : Outcome
 
--- a creation, named by its ordered group and its string tag
+-- the name of a creation: the ordered group and the string tag; or the communicator that is duplicated, by its
+-- place, and how many creations on it the caller had called before
+pub data CreationName : Type 0 where
+  Group_and_tag : List ℕ → List ℕ → CreationName
+  Nth_dup : ℕ → ℕ → CreationName
+
+-- a creation, with the members of the communicator to be in order
 pub record Creation : Type 0 where
+  pub name : CreationName
   pub group : List ℕ
-  pub tag : List ℕ
   pub callers : List Caller
   pub outcome : Option Outcome
   pub answered : List ℕ
@@ -72,7 +78,7 @@ abbrev pub blank_part : RankPart
 blank_part = record { local = record { names = []; sessions = 0 }; threads = replicate THREADS idle_thread }
 
 abbrev pub blank_creation : Creation
-blank_creation = record { group = []; tag = []; callers = []; outcome = None; answered = [] }
+blank_creation = record { name = Group_and_tag [] []; group = []; callers = []; outcome = None; answered = [] }
 
 abbrev pub blank_comm : Communicator
 blank_comm = record { ctx = 0; members = [] }
@@ -94,45 +100,57 @@ is_idle_wait (Creating n) = false
 
 -- Creations
 
-abbrev pub is_named : List ℕ → List ℕ → Creation → Bool
-is_named group tag c = bytes_eq c.group group && bytes_eq c.tag tag
+abbrev pub same_name : CreationName → CreationName → Bool
+same_name (Group_and_tag g t) (Group_and_tag h u) = bytes_eq g h && bytes_eq t u
+same_name (Group_and_tag g t) (Nth_dup p n) = false
+same_name (Nth_dup p n) (Group_and_tag g t) = false
+same_name (Nth_dup p n) (Nth_dup q m) = (p == q) && (n == m)
 
 -- a creation of this name whose outcome is open
-abbrev pub is_undecided : List ℕ → List ℕ → Creation → Bool
-is_undecided group tag c = is_named group tag c && is_none c.outcome
+abbrev pub is_undecided : CreationName → Creation → Bool
+is_undecided name c = same_name c.name name && is_none c.outcome
 
 -- a call joins the one creation of its name that has no outcome yet, or opens a new one
-abbrev pub join : List Creation → List ℕ → List ℕ → Caller → List Creation
-join [] group tag caller = record { group = group; tag = tag; callers = caller ∷ []; outcome = None; answered = [] } ∷ []
-join (c ∷ cs) group tag caller =
-    if is_undecided group tag c
-    then record { group = c.group; tag = c.tag; callers = c.callers ++ caller ∷ []; outcome = c.outcome; answered = c.answered } ∷ cs
-    else c ∷ join cs group tag caller
+abbrev pub join : List Creation → CreationName → List ℕ → Caller → List Creation
+join [] name group caller = record { name = name; group = group; callers = caller ∷ []; outcome = None; answered = [] } ∷ []
+join (c ∷ cs) name group caller =
+    if is_undecided name c
+    then record { name = c.name; group = c.group; callers = c.callers ++ caller ∷ []; outcome = c.outcome; answered = c.answered } ∷ cs
+    else c ∷ join cs name group caller
 
 -- the place of the one creation of a name that has no outcome yet; the length where there is none
-abbrev pub undecided_place : List Creation → List ℕ → List ℕ → ℕ
-undecided_place [] group tag = 0
-undecided_place (c ∷ cs) group tag = if is_undecided group tag c then 0 else suc (undecided_place cs group tag)
+abbrev pub undecided_place : List Creation → CreationName → ℕ
+undecided_place [] name = 0
+undecided_place (c ∷ cs) name = if is_undecided name c then 0 else suc (undecided_place cs name)
 
 abbrev pub with_outcome : Creation → Outcome → Creation
-with_outcome c o = record { group = c.group; tag = c.tag; callers = c.callers; outcome = Some o; answered = c.answered }
+with_outcome c o = record { name = c.name; group = c.group; callers = c.callers; outcome = Some o; answered = c.answered }
 
 abbrev pub with_answer : Creation → ℕ → Creation
-with_answer c r = record { group = c.group; tag = c.tag; callers = c.callers; outcome = c.outcome; answered = c.answered ++ r ∷ [] }
+with_answer c r = record { name = c.name; group = c.group; callers = c.callers; outcome = c.outcome; answered = c.answered ++ r ∷ [] }
 
 -- whether a rank has called a creation
 abbrev pub has_called : Creation → ℕ → Bool
 has_called c r = list_any (λ k. k.rank == r) c.callers
 
+-- whether a creation of this name is on the communicator at a place
+abbrev pub is_on : ℕ → CreationName → Bool
+is_on p (Group_and_tag group tag) = false
+is_on p (Nth_dup q n) = q == p
+
+-- how many creations on a communicator a rank has called
+abbrev pub called_on : List Creation → ℕ → ℕ → ℕ
+called_on creations p r = length (filter (λ c. is_on p c.name && has_called c r) creations)
+
 -- whether a thread's creation is of this name
-abbrev pub waits_for : Registry → List ℕ → List ℕ → Wait → Bool
-waits_for g group tag Idle = false
-waits_for g group tag (Reply_now r) = false
-waits_for g group tag (Creating n) = is_named group tag (get_or g.creations n blank_creation)
+abbrev pub waits_for : Registry → CreationName → Wait → Bool
+waits_for g name Idle = false
+waits_for g name (Reply_now r) = false
+waits_for g name (Creating n) = same_name (get_or g.creations n blank_creation).name name
 
 -- a creation is open at a rank from its call to its answer: while a thread of the rank waits for it
-abbrev pub is_open : Registry → ℕ → List ℕ → List ℕ → Bool
-is_open g r group tag = list_any (λ t. waits_for g group tag t.wait) (part_of g r).threads
+abbrev pub is_open : Registry → ℕ → CreationName → Bool
+is_open g r name = list_any (λ t. waits_for g name t.wait) (part_of g r).threads
 
 -- Contexts
 
@@ -144,6 +162,10 @@ is_live_at m r = has_rank m.members r
 abbrev pub in_use : List Communicator → ℕ → ℕ → Bool
 in_use comms r c = list_any (λ m. (m.ctx == c) && is_live_at m r) comms
 
+-- the place of the communicator that a context stands for at a rank: the one with this context that is live there
+abbrev pub comm_of : List Communicator → ℕ → ℕ → Option ℕ
+comm_of comms r c = position (λ m. (m.ctx == c) && is_live_at m r) comms
+
 -- two communicators that are live at one rank have different contexts
 abbrev pub LiveApart : Registry → Type 0
 LiveApart g =
@@ -153,7 +175,17 @@ LiveApart g =
 -- What a call does, and what is owed
 
 abbrev pub effect_at : Setting → Registry → ℕ → Op → Effect
-effect_at s g r op = effect_of s r (is_open g r) (part_of g r).local op
+effect_at s g r op = effect_of s r (λ group tag. is_open g r (Group_and_tag group tag)) (part_of g r).local op
+
+-- the name of a creation that a rank calls now
+abbrev pub name_of : Registry → ℕ → Origin → CreationName
+name_of g r (Grouped group tag) = Group_and_tag group tag
+name_of g r (Duplicated p) = Nth_dup p (called_on g.creations p r)
+
+-- the members of the communicator to be: the group, or the members of the communicator that is duplicated
+abbrev pub group_of : Registry → Origin → List ℕ
+group_of g (Grouped group tag) = group
+group_of g (Duplicated p) = (get_or g.comms p blank_comm).members
 
 -- a member's rank in a communicator
 abbrev pub place_in : List ℕ → ℕ → ℕ
@@ -189,33 +221,40 @@ after_effect g r t (Says l said) = with_part g r (part_after (part_of g r) t l (
 after_effect g r t (Joins l a) =
     record {
       comms = g.comms;
-      creations = join g.creations a.group a.tag (record { rank = r; thread = t; target = a.target; session = a.session });
-      ranks = set g.ranks r (part_after (part_of g r) t l (record { calls = (thread_of g r t).calls + 1; wait = Creating (undecided_place g.creations a.group a.tag) }));
+      creations = join g.creations (name_of g r a.origin) (group_of g a.origin) (record { rank = r; thread = t; target = a.target; session = a.session });
+      ranks = set g.ranks r (part_after (part_of g r) t l (record { calls = (thread_of g r t).calls + 1; wait = Creating (undecided_place g.creations (name_of g r a.origin)) }));
     }
 
--- the name that a key stands for: a creation from a group has no parent and no number
-abbrev pub is_from : Kind → Bool
-is_from kind.From = true
-is_from kind.Group = false
-is_from kind.Dup = false
-is_from kind.Split = false
-is_from kind.Share = false
+-- The name that a key stands for at a rank. From a group there is no parent and no number, and else no string; the
+-- parent's context stands for the communicator with this context that is live at the rank.
+abbrev pub name_by : List Communicator → ℕ → Key → Kind → Option CreationName
+name_by comms r key kind.From = if (key.parent == 0) && (key.number == 0) then Some (Group_and_tag key.members key.tag) else None
+name_by comms r key kind.Group = None
+name_by comms r key kind.Dup = if bytes_eq key.tag [] then option_map (λ p. Nth_dup p key.number) (comm_of comms r key.parent) else None
+name_by comms r key kind.Split = None
+name_by comms r key kind.Share = None
 
-abbrev pub stands_for_name : Key → Bool
-stands_for_name key = is_from key.kind && ((key.parent == 0) && (key.number == 0))
+abbrev pub stands_for : List Communicator → ℕ → Key → Option CreationName
+stands_for comms r key = name_by comms r key key.kind
+
+abbrev pub place_of_name : List Creation → Option CreationName → ℕ
+place_of_name creations None = length creations
+place_of_name creations (Some name) = undecided_place creations name
+
+-- the place of the creation without an outcome that a key stands for at a rank; the length where there is none
+abbrev pub key_place : Registry → ℕ → Key → ℕ
+key_place g r key = place_of_name g.creations (stands_for g.comms r key)
 
 -- the creation that a key stands for has an outcome
-abbrev pub decide : Registry → Key → Outcome → List Creation
-decide g key o =
-    let n = undecided_place g.creations key.members key.tag in
-    set g.creations n (with_outcome (get_or g.creations n blank_creation) o)
+abbrev pub decide : Registry → ℕ → Key → Outcome → List Creation
+decide g r key o = set g.creations (key_place g r key) (with_outcome (get_or g.creations (key_place g r key) blank_creation) o)
 
-abbrev pub after_pick : Registry → Key → Option ℕ → Registry
-after_pick g key None = record { comms = g.comms; creations = decide g key NoneFree; ranks = g.ranks }
-after_pick g key (Some c) =
+abbrev pub after_pick : Registry → ℕ → Key → Option ℕ → Registry
+after_pick g r key None = record { comms = g.comms; creations = decide g r key NoneFree; ranks = g.ranks }
+after_pick g r key (Some c) =
     record {
       comms = g.comms ++ record { ctx = c; members = key.members } ∷ [];
-      creations = decide g key (Made (length g.comms));
+      creations = decide g r key (Made (length g.comms));
       ranks = g.ranks;
     }
 
@@ -247,16 +286,17 @@ after_reply g r t (Creating n) =
 -- what an event does
 unfoldable pub registry_next : Setting → Registry → Event → Registry
 registry_next s g (Calls r t op now) = after_effect g r t (effect_at s g r op)
-registry_next s g (Picks r key pick) = after_pick g key pick
+registry_next s g (Picks r key pick) = after_pick g r key pick
 registry_next s g (Replies r t said) = after_reply g r t (thread_of g r t).wait
 
 -- When an event may come
 
--- the creation of a key is there, without an outcome, and all its members have called it
-pub record MayPick (g : Registry) (key : Key) : Type 0 where
-  pub named : stands_for_name key ≡ true
-  pub there : undecided_place g.creations key.members key.tag < length g.creations
-  pub all : list_all (has_called (get_or g.creations (undecided_place g.creations key.members key.tag) blank_creation)) key.members ≡ true
+-- the creation that a key stands for at a rank is there, without an outcome; the key has its members, and all of
+-- them have called it
+pub record MayPick (g : Registry) (r : ℕ) (key : Key) : Type 0 where
+  pub there : key_place g r key < length g.creations
+  pub members : (get_or g.creations (key_place g r key) blank_creation).group ≡ key.members
+  pub all : list_all (has_called (get_or g.creations (key_place g r key) blank_creation)) key.members ≡ true
 
 -- a context from 1 to the greatest that is in use at no member
 pub record IsFree (s : Setting) (g : Registry) (key : Key) (c : ℕ) : Type 0 where
@@ -277,8 +317,8 @@ pub record MayCall (s : Setting) (g : Registry) (r t : ℕ) (op : Op) (now : Boo
 -- Answers come in a step of their own, and a reply at once in the call's own entry.
 abbrev pub Allowed : Setting → Registry → Event → Type 0
 Allowed s g (Calls r t op now) = MayCall s g r t op now
-Allowed s g (Picks r key (Some c)) = MayPick g key × IsFree s g key c
-Allowed s g (Picks r key None) = MayPick g key × AllInUse s g key
+Allowed s g (Picks r key (Some c)) = MayPick g r key × IsFree s g key c
+Allowed s g (Picks r key None) = MayPick g r key × AllInUse s g key
 Allowed s g (Replies r t said) = owed g r t ≡ Some said
 
 -- each event is allowed in the state that the earlier ones leave

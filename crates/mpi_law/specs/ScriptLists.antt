@@ -2,7 +2,7 @@
 use Rattle.mpi_base.specs.declared.members.TheConstants.{MOST_RANKS}
 use Rattle.std.specs.Prelude.{◌≡◌, ℕ, ◌+◌, ◌*◌, ◌^◌, ◌<◌, ◌≤◌, Bool, true, List, [], get_or, slice_get, Option, sum_by, length, bytes_eq, codes, set, ◌++◌, ◌∷◌}
 use Rattle.mpi_base.specs.declared.ops.Op.{Op}
-use Rattle.mpi_base.specs.declared.ops.Op.TheVariants.{Session, Pset, Create}
+use Rattle.mpi_base.specs.declared.ops.Op.TheVariants.{Session, Pset, Create, Dup}
 
 -- the ranks, and the script of thread t of rank r at the place 8 r + t
 pub record AllScripts : Type 0 where
@@ -34,6 +34,7 @@ abbrev pub is_built : Op → Bool
 is_built (Session target) = true
 is_built (Pset session set target) = bytes_eq set self_set
 is_built (Create group tag target) = true
+is_built (Dup comm target) = true
 
 -- eight scripts for each rank, and their operations counted
 pub record IsScripts (ranks total : ℕ) (lists : List (List Op)) : Type 0 where

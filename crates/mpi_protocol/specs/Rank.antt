@@ -1,5 +1,5 @@
 -- The state of a rank, as lists, maps and numbers.
-use Rattle.std.specs.Prelude.{ℕ, ◌+◌, not, Bool, true, false, if◌then◌else◌, List, [], ◌∷◌, ◌++◌, map, filter, find, option_map, get_or, replicate, Option, None, unwrap_or}
+use Rattle.std.specs.Prelude.{ℕ, ◌+◌, ◌==◌, not, Bool, true, false, if◌then◌else◌, List, [], ◌∷◌, ◌++◌, map, filter, find, option_map, get_or, replicate, Option, None, unwrap_or}
 use Rattle.mpi_base.specs.declared.keys.Key.{Key}
 use Rattle.mpi_base.specs.Keys.{same_key}
 use Rattle.mpi_law.specs.declared.setting.Setting.{Setting}
@@ -63,6 +63,13 @@ stage_of opened key = option_map (λ o. o.stage) (find (λ o. same_key o.key key
 abbrev pub round_of : List RoundRow → Key → ℕ
 round_of rounds key = unwrap_or (option_map (λ o. o.round) (find (λ o. same_key o.key key) rounds)) 0
 
+abbrev pub blank_comm : CommRow
+blank_comm = record { ctx = 0; members = []; session = 0; creations = 0 }
+
+-- the communicator with this context
+abbrev pub comm_at : List CommRow → ℕ → CommRow
+comm_at comms c = unwrap_or (find (λ m. m.ctx == c) comms) blank_comm
+
 abbrev pub thread_at : Rank → ℕ → ThreadRow
 thread_at x t = get_or x.threads t idle_thread
 
@@ -85,6 +92,13 @@ abbrev pub session_of : List ThreadRow → Key → ℕ
 session_of threads key = unwrap_or (option_map (λ t. session_in t.waits) (find (λ t. waits_on key t.waits) threads)) 0
 
 -- Changes of rows
+
+abbrev pub with_creation : ℕ → CommRow → CommRow
+with_creation c m = if m.ctx == c then record { ctx = m.ctx; members = m.members; session = m.session; creations = m.creations + 1 } else m
+
+-- one more creation on the communicator with this context
+abbrev pub count_creation : List CommRow → ℕ → List CommRow
+count_creation comms c = map (with_creation c) comms
 
 abbrev pub open_creation : List CreationRow → Key → Stage → List CreationRow
 open_creation opened key stage = opened ++ record { key = key; stage = stage } ∷ []

@@ -1,7 +1,7 @@
 -- The step of a rank: a function of its state and the act. It gives the new state and the entry.
 use Rattle.std.specs.Prelude.{◌≡◌, ℕ, ◌+◌, ◌&&◌, Bool, true, false, if◌then◌else◌, List, [], ◌∷◌, ◌++◌, length, set, Option, Some, None, is_some, nat_lt}
 use Rattle.mpi_base.specs.declared.keys.Key.{Key}
-use Rattle.mpi_base.specs.declared.keys.Kind.TheVariants.{From}
+use Rattle.mpi_base.specs.declared.keys.Kind.TheVariants.{From, Dup}
 use Rattle.mpi_base.specs.declared.ops.Reply.{Reply}
 use Rattle.mpi_base.specs.declared.ops.Reply.TheVariants as reply
 use Rattle.mpi_base.specs.declared.errors.ErrClass.TheVariants as class
@@ -13,7 +13,7 @@ use Rattle.mpi_base.specs.declared.entries.Entry.{Entry}
 use Rattle.mpi_law.specs.declared.rows.Bound.TheVariants.{Comm}
 use Rattle.mpi_law.specs.declared.setting.TheConstants.{THREADS}
 use Rattle.mpi_law.specs.ScriptLists.{is_built}
-use Rattle.mpi_law.specs.Local.{Local, Effect, Says, Joins, Asked, effect_of, rebind, unbind}
+use Rattle.mpi_law.specs.Local.{Local, Effect, Says, Joins, Origin, Grouped, Duplicated, Asked, effect_of, rebind, unbind}
 use Rattle.mpi_law.specs.Registry.{place_in}
 use Rattle.ctx_mask.specs.Masks.{none_of}
 use Rattle.mpi_protocol.specs.declared.rows.Outcome.{Outcome}
@@ -25,7 +25,8 @@ use Rattle.mpi_protocol.specs.declared.rows.Verdict.TheVariants as verdict
 use Rattle.mpi_protocol.specs.declared.rows.Waits.{Waits}
 use Rattle.mpi_protocol.specs.declared.rows.Waits.TheVariants.{Nothing, Creation}
 use Rattle.mpi_protocol.specs.declared.rows.ThreadRow.{ThreadRow}
-use Rattle.mpi_protocol.specs.Rank.{Rank, Offer, stage_of, round_of, thread_at, is_idle, session_of, open_creation, set_stage, close_creation, set_round, drop_round, drop_offers}
+use Rattle.mpi_protocol.specs.declared.rows.CommRow.{CommRow}
+use Rattle.mpi_protocol.specs.Rank.{Rank, Offer, stage_of, round_of, thread_at, is_idle, session_of, comm_at, count_creation, open_creation, set_stage, close_creation, set_round, drop_round, drop_offers}
 use Rattle.mpi_protocol.specs.Agreement.{may_own, let_go, is_first, is_ready, verdict_of}
 
 -- what a step leaves, what it says and what it replies
@@ -39,6 +40,20 @@ pub record Move : Type 0 where
 -- the key of a creation from a group
 abbrev pub key_from : List ℕ → List ℕ → Key
 key_from group tag = record { parent = 0; kind = From; number = 0; tag = tag; members = group }
+
+-- the key of a duplicate: it counts the creations on the communicator that this rank has called before
+abbrev pub key_on : Rank → ℕ → Key
+key_on x c =
+    record { parent = c; kind = Dup; number = (comm_at x.comms c).creations; tag = []; members = (comm_at x.comms c).members }
+
+abbrev pub key_of : Rank → Origin → Key
+key_of x (Grouped group tag) = key_from group tag
+key_of x (Duplicated c) = key_on x c
+
+-- a creation on a communicator is counted there
+abbrev pub counted : List CommRow → Origin → List CommRow
+counted comms (Grouped group tag) = comms
+counted comms (Duplicated c) = count_creation comms c
 
 -- a creation is open here while its key has a stage
 abbrev pub is_open_here : Rank → List ℕ → List ℕ → Bool
@@ -60,10 +75,11 @@ empty_mask x = none_of (x.setting.contexts + 1)
 
 abbrev pub joined : Rank → ℕ → Local → Asked → Rank
 joined x t l a =
-    let key = key_from a.group a.tag in
+    let key = key_of x a.origin in
     record x {
       opened = open_creation x.opened key Called;
       gathered = gather x key false (empty_mask x);
+      comms = counted x.comms a.origin;
       local = l;
       threads = with_thread x t (record { calls = (thread_at x t).calls + 1; waits = Creation key a.target a.session });
     }
@@ -149,7 +165,7 @@ takes x key i (verdict.Context c) =
       mask = set x.mask c false;
       owner = let_go x.owner key;
       opened = set_stage x.opened key (Done (outcome.Context c));
-      comms = x.comms ++ record { ctx = c; members = key.members; session = session_of x.threads key } ∷ [];
+      comms = x.comms ++ record { ctx = c; members = key.members; session = session_of x.threads key; creations = 0 } ∷ [];
     }
 takes x key i verdict.Exhausted = record x { owner = let_go x.owner key; opened = set_stage x.opened key (Done outcome.Exhausted) }
 

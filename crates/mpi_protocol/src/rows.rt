@@ -69,6 +69,8 @@ pub struct CommRow {
     pub members: Members,
     /// The session of this rank that it came from.
     pub session: u64,
+    /// How many creations on it this rank has called.
+    pub creations: u64,
 }
 
 /// What a thread waits for.

@@ -6,6 +6,9 @@ use Rattle.mpi_base.specs.declared.entries.Choice.{Choice}
 use Rattle.mpi_base.specs.declared.entries.Entry.{Entry}
 use Rattle.mpi_law.specs.ScriptLists.{AllScripts, script_of}
 use Rattle.mpi_protocol.specs.Rank.{Rank, fresh, thread_at, round_of}
+use Rattle.std.specs.List.{All, AllByRecursion}
+use Rattle.std.proofs.lemmas.List.Elements.{All-from_recursion}
+use Rattle.mpi_protocol.specs.declared.rows.CommRow.{CommRow}
 use Rattle.mpi_protocol.specs.Step.{Steps}
 use Rattle.mpi_protocol.specs.World.{opening, rank_at, moved, entry_at}
 use Rattle.mpi_protocol.specs.Run.{IsProtocolRun, end_of}
@@ -81,9 +84,18 @@ pub record FewSteps (x : Rank) : Type 0 where
   pub sessions : x.local.sessions < 2 ^ 64 - 1
   pub calls : (t : ℕ) → (thread_at x t).calls < 2 ^ 64 - 1
   pub rounds : (key : Key) → round_of x.rounds key < 2 ^ 64 - 1
+  pub creations : All (λ m. m.creations < 2 ^ 64 - 1) x.comms
 
 pub few_steps : (scripts : AllScripts) (x y : Rank) (journal : List Entry) → IsSoloJob scripts → Draining scripts x journal → y ≡ x → FewSteps y
 few_steps scripts x y journal job d e = subst FewSteps (sym e) fits where
+  all_below : (comms : List CommRow) → AllByRecursion (λ m. m.creations ≤ length journal) comms → AllByRecursion (λ m. m.creations < 2 ^ 64 - 1) comms
+  all_below [] h = tt
+  all_below (m ∷ ms) h =
+      let few = job.few in
+      let left = d.left in
+      let b = h.0 in
+      (omega (arith, b, few, left), all_below ms h.1)
+
   fits : FewSteps x
   fits =
       let at : rank_at (end_of solo_setting journal) 0 ≡ x = ap (λ (w : List Rank). rank_at w 0) d.ends in
@@ -94,4 +106,5 @@ few_steps scripts x y journal job d e = subst FewSteps (sym e) fits where
         sessions = let b = subst (λ (z : Rank). z.local.sessions ≤ length journal) at below.sessions in omega (arith, b, few, left);
         calls = λ t. let b = subst (λ (z : Rank). (thread_at z t).calls ≤ length journal) at (below.calls t) in omega (arith, b, few, left);
         rounds = λ key. let b = subst (λ (z : Rank). round_of z.rounds key ≤ length journal) at (below.rounds key) in omega (arith, b, few, left);
+        creations = All-from_recursion _ _ (all_below x.comms (subst (λ (z : Rank). AllByRecursion (λ m. m.creations ≤ length journal) z.comms) at below.creations));
       }

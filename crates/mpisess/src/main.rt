@@ -32,6 +32,7 @@ that is neither blank nor one of
   session NAME
   pset NAME mpi://SELF -> NAME
   create NAME STRING -> NAME
+  dup NAME -> NAME
 each with one space between its words and none at its ends";
 
 const HELP: &str = "\
@@ -43,6 +44,7 @@ The lines of a script:
   session NAME                  opens a session
   pset NAME mpi://SELF -> NAME  makes the group of a process set
   create NAME STRING -> NAME    makes a communicator from a group and a string tag
+  dup NAME -> NAME              duplicates a communicator
 
 The process ends with 0 where the journal was written, 1 where the words were not understood, 2 where
 the script cannot be run, 4 or 5 where reading or writing failed, and 7 where no memory was left.";

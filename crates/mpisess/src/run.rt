@@ -1,5 +1,5 @@
 //! The drain: the script of one rank, run to its end.
-ghost use Rattle.std.specs.Prelude.{◌≡◌, ◌<◌, ◌≤◌, ◌^◌, ◌-◌, ◌∷◌, [], ℕ, true, IfOk, IfSome, IfNone, option_copied};
+ghost use Rattle.std.specs.Prelude.{◌≡◌, ◌<◌, ◌≤◌, ◌^◌, ◌-◌, ◌∷◌, [], ℕ, true, IfOk, IfSome, IfNone, option_copied, All};
 ghost use Rattle.mpi_law.specs.ScriptLists.{next_op as next_op_of};
 ghost use Rattle.mpi_protocol.specs.Rank.{thread_at, round_of};
 ghost use Rattle.mpi_protocol.specs.Step.{is_enabled, Steps};
@@ -90,6 +90,7 @@ fn make(state: &mut RankState<1>, act: Act) -> Entry
     requires sessions { state.old.state.local.sessions < 2 ^ 64 - 1 }
     requires calls { (t : ℕ) → (thread_at state.old.state t).calls < 2 ^ 64 - 1 }
     requires rounds { (key : Key) → round_of state.old.state.rounds key < 2 ^ 64 - 1 }
+    requires creations { All (λ m. m.creations < 2 ^ 64 - 1) state.old.state.comms }
     ensures { Steps state.old.state act state.new.state result }
 {
     match act {

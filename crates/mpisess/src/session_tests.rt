@@ -96,6 +96,80 @@ fn the_sixty_fourth_creation_finds_no_context(rt: HostRuntime) -> Result<(), Fai
 }
 
 #[test]
+fn a_duplicate_adds_its_five_lines(rt: HostRuntime) -> Result<(), Fail> {
+    let alloc = rt.alloc();
+    let mut script = SCRIPT.to_vec(alloc)?;
+    script.extend_from_slice(b"dup c -> d\n")?;
+    let mut journal = JOURNAL.to_vec(alloc)?;
+    journal.extend_from_slice(
+        b"\
+0 call 0 dup c -> d
+0 settle dup 1 0 [0] # ready
+0 offer dup 1 0 [0] # own
+0 settle dup 1 0 [0] # pick ctx=2
+0 answer 0 => comm ctx=2 rank=0 size=1
+",
+    )?;
+    let mut sink = sink(alloc, 7, None)?;
+    assert_eq!(rt; solo(alloc, &script, &mut sink)?.status, Status::Fine);
+    assert_eq!(rt; sink.bytes(), journal.as_slice());
+    Ok(())
+}
+
+#[test]
+fn a_duplicate_of_no_communicator_is_refused(rt: HostRuntime) -> Result<(), Fail> {
+    let mut sink = sink(rt.alloc(), 7, None)?;
+    assert_eq!(rt;
+        solo(rt.alloc(), b"dup x -> y", &mut sink)?.status,
+        Status::Fine
+    );
+    assert_eq!(rt;
+        sink.bytes(),
+        b"0 call 0 dup x -> y => err MPI_ERR_COMM\n".as_slice()
+    );
+    Ok(())
+}
+
+/// The five lines of the duplicate of context 1 with this number. The first 62 get the contexts from 2 on.
+fn duplicate(alloc: Global, number: u32, target: u32) -> Result<String, Fail> {
+    let mut lines = format!(in alloc;
+        "0 call 0 dup c -> d{target}\n0 settle dup 1 {number} [0] # ready\n0 offer dup 1 {number} [0] # own\n"
+    )?;
+    if number < 62 {
+        let ctx = number + 2;
+        lines.push_str(format!(in alloc;
+            "0 settle dup 1 {number} [0] # pick ctx={ctx}\n0 answer 0 => comm ctx={ctx} rank=0 size=1\n"
+        )?.as_str())?;
+    } else {
+        lines.push_str(format!(in alloc;
+            "0 settle dup 1 {number} [0] # pick exhausted\n0 answer 0 => err EXHAUSTED\n"
+        )?.as_str())?;
+    }
+    Ok(lines)
+}
+
+#[test]
+fn duplicates_take_all_contexts_and_are_then_exhausted(rt: HostRuntime) -> Result<(), Fail> {
+    let alloc = rt.alloc();
+    let mut script = String::from_utf8(SCRIPT.to_vec(alloc)?).expect(&rt, "text");
+    let mut journal = String::from_utf8(JOURNAL.to_vec(alloc)?).expect(&rt, "text");
+    for number in 0..63 {
+        let target = number + 1;
+        script.push_str(format!(in alloc; "dup c -> d{target}\n")?.as_str())?;
+        journal.push_str(duplicate(alloc, number, target)?.as_str())?;
+    }
+    script.push_str("dup c -> d63\n")?;
+    journal.push_str(duplicate(alloc, 63, 63)?.as_str())?;
+    let mut sink = sink(alloc, 1_000, None)?;
+    assert_eq!(rt;
+        solo(alloc, script.as_bytes(), &mut sink)?.status,
+        Status::Fine
+    );
+    assert_eq!(rt; sink.bytes(), journal.as_bytes());
+    Ok(())
+}
+
+#[test]
 fn a_source_that_fails_gives_nothing(rt: HostRuntime) -> Result<(), Fail> {
     let alloc = rt.alloc();
     let mut source = MemorySource::new(SCRIPT.to_vec(alloc)?, 4, vec![in alloc; 1]?);

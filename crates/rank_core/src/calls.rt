@@ -1,31 +1,40 @@
 //! Calls and answers.
-ghost use Rattle.std.specs.Prelude.{◌≡◌, ◌≤◌, ◌<◌, ◌+◌, ◌-◌, ◌^◌, true, IfOk, IfErr};
-ghost use Rattle.mpi_law.specs.Local.{as_session, as_group, bound_of, call_session, call_pset, call_create, effect_of, lacks as lacks_rank, refusal};
+ghost use Rattle.std.specs.Prelude.{◌≡◌, ◌≤◌, ◌<◌, ◌+◌, ◌-◌, ◌^◌, true, [], All, IfOk, IfErr};
+ghost use Rattle.mpi_law.specs.Local.{as_session, as_group, bound_of, call_session, call_pset, call_create, call_dup, as_comm, effect_of, lacks as lacks_rank, refusal};
 ghost use Rattle.mpi_law.specs.ScriptLists.{is_built, self_set};
 ghost use Rattle.mpi_protocol.specs.Rank.{stage_of, thread_at};
-ghost use Rattle.mpi_protocol.specs.Step.{Steps, is_enabled, is_open_here, key_from as key_of, called};
-ghost use Rattle.rank_core.specs.Effects.{effect_by, effect_after};
+ghost use Rattle.mpi_protocol.specs.Step.{Steps, is_enabled, is_open_here, key_from as key_of_group, key_on as key_of_comm, key_of, counted, called};
+ghost use Rattle.rank_core.specs.Effects.{effect_by, effect_after, origin_of};
 ghost use Rattle.rank_core.specs.Ends.{names_after, outcome_of, reply_of};
 
 use crate::offers::{gather, place_in};
 use crate::rank::RankState;
-use crate::rows::{bind, bind_comm, close_creation, count_call, free_name, take_waits};
+use crate::rows::{
+    bind, bind_comm, close_creation, count_call, count_creation, free_name, take_waits,
+};
 use mpi_base::{
     Act, Choice, Entry, ErrClass, Key, Kind, Members, Name, Op, Reply, Said, StringTag,
 };
 use mpi_law::{Bound, THREADS};
 use mpi_protocol::{CreationRow, Outcome, Stage, Waits};
 
+/// What a new communicator comes from.
+#[derive(Drop)]
+enum Origin {
+    /// A group and a string tag.
+    Grouped(Members, StringTag),
+    /// The communicator with this context, which is duplicated.
+    Duplicated(u16),
+}
+
 /// A creation that a caller asks for.
 #[derive(Drop)]
 struct Asked {
-    /// The members of the communicator to be.
-    group: Members,
-    /// The string tag.
-    tag: StringTag,
+    /// What the communicator comes from.
+    origin: Origin,
     /// The name to bind.
     target: Name,
-    /// The session of the group.
+    /// The session of the communicator to be.
     session: u64,
 }
 
@@ -51,7 +60,7 @@ enum Plan {
 
 /// The key of a creation from a group.
 fn key_from(group: Members, tag: StringTag) -> Key
-    ensures { result ≡ key_of group tag }
+    ensures { result ≡ key_of_group group tag }
 {
     Key {
         parent: 0,
@@ -59,6 +68,22 @@ fn key_from(group: Members, tag: StringTag) -> Key
         number: 0,
         tag,
         members: group,
+    }
+}
+
+/// The key of a duplicate of a communicator, after so many other creations on it.
+fn key_of_dup(ctx: u16, number: u64, members: Members) -> Key
+    ensures { result ≡ record { parent = ctx; kind = Kind.Dup; number = number; tag = []; members = members } }
+{
+    let Some(tag) = StringTag::new(b"") else {
+        unreachable!()
+    };
+    Key {
+        parent: ctx,
+        kind: Kind::Dup,
+        number,
+        tag,
+        members,
     }
 }
 
@@ -88,6 +113,16 @@ impl<const W: usize> RankState<W> {
         match self.bound(name) {
             Some(Bound::Group { members, session }) => Ok((members, *session)),
             _ => Err(ErrClass::Group),
+        }
+    }
+
+    /// The context of the communicator that a name is bound to, and its session.
+    fn comm_named(&self, name: &Name) -> Result<(u16, u64), ErrClass>
+        ensures { result ≡ as_comm (bound_of self.now.state.local.names name.now) }
+    {
+        match self.bound(name) {
+            Some(Bound::Comm { comm, session }) => Ok((*comm, *session)),
+            _ => Err(ErrClass::Comm),
         }
     }
 
@@ -136,8 +171,22 @@ impl<const W: usize> RankState<W> {
             return Ok(Plan::Says(Reply::Null));
         }
         Ok(Plan::Joins(Asked {
-            group: group.copy(),
-            tag: tag.copy(),
+            origin: Origin::Grouped(group.copy(), tag.copy()),
+            target: target.copy(),
+            session,
+        }))
+    }
+
+    /// A duplicate of a communicator.
+    fn dup(&self, comm: &Name, target: &Name) -> Result<Plan, ErrClass>
+        ensures { effect_after self.now.state.local result ≡ refusal self.now.state.local (call_dup self.now.state.local comm.now target.now) }
+    {
+        let (ctx, session) = self.comm_named(comm)?;
+        if self.is_bound(target) {
+            return Err(ErrClass::Arg);
+        }
+        Ok(Plan::Joins(Asked {
+            origin: Origin::Duplicated(ctx),
             target: target.copy(),
             session,
         }))
@@ -154,6 +203,7 @@ impl<const W: usize> RankState<W> {
             Op::Session(target) => self.session(target),
             Op::Pset(session, _, target) => self.self_group(session, target),
             Op::Create(group, tag, target) => self.create(group, tag, target),
+            Op::Dup(comm, target) => self.dup(comm, target),
         }
     }
 
@@ -168,21 +218,48 @@ impl<const W: usize> RankState<W> {
         }
     }
 
+    /// The key of a duplicate of a communicator that is called now.
+    fn key_on(&self, ctx: u16) -> Key
+        ensures { result ≡ key_of_comm self.now.state ctx }
+    {
+        match self.comm(ctx) {
+            Some(row) => key_of_dup(ctx, row.creations, row.members.copy()),
+            None => key_of_dup(ctx, 0, Members::none()),
+        }
+    }
+
+    /// The key of a creation that is called now. A creation on a communicator is counted there.
+    fn take_key(&mut self, origin: Origin) -> Key
+        requires creations { All (λ m. m.creations < 2 ^ 64 - 1) self.old.state.comms }
+        ensures key { result ≡ key_of self.old.state (origin_of origin) }
+        ensures state { self.new.state ≡ record self.old.state { comms = counted self.old.state.comms (origin_of origin) } }
+        ensures spare { self.old.spare ≤ self.new.spare }
+    {
+        match origin {
+            Origin::Grouped(group, tag) => key_from(group, tag),
+            Origin::Duplicated(ctx) => {
+                let key = self.key_on(ctx);
+                count_creation(&mut self.comms, ctx);
+                key
+            }
+        }
+    }
+
     /// Joins a creation, for which the thread waits from now on.
     fn join(&mut self, thread: u8, asked: Asked)
         requires thread { thread < THREADS }
         requires room { 1 ≤ self.old.spare }
         requires calls { (thread_at self.old.state thread).calls < 2 ^ 64 - 1 }
+        requires creations { All (λ m. m.creations < 2 ^ 64 - 1) self.old.state.comms }
         ensures state { self.new.state ≡ (called self.old.state thread (effect_by self.old.state.local (Plan.Joins asked))).state }
         ensures spare { self.old.spare ≤ self.new.spare + 1 }
     {
         let Asked {
-            group,
-            tag,
+            origin,
             target,
             session,
         } = asked;
-        let key = key_from(group, tag);
+        let key = self.take_key(origin);
         let mask = self.empty_mask();
         bind(&mut self.names, target.copy(), Bound::Reserved);
         self.opened.push_reserved(CreationRow {
@@ -204,6 +281,7 @@ impl<const W: usize> RankState<W> {
         requires room { 1 ≤ self.old.spare }
         requires sessions { self.old.state.local.sessions < 2 ^ 64 - 1 }
         requires calls { (thread_at self.old.state thread).calls < 2 ^ 64 - 1 }
+        requires creations { All (λ m. m.creations < 2 ^ 64 - 1) self.old.state.comms }
         ensures state { self.new.state ≡ (called self.old.state thread (effect_by self.old.state.local plan)).state }
         ensures reply { result ≡ (called self.old.state thread (effect_by self.old.state.local plan)).reply }
         ensures spare { self.old.spare ≤ self.new.spare + 1 }
@@ -258,6 +336,7 @@ impl<const W: usize> RankState<W> {
         requires room { 1 ≤ self.old.spare }
         requires sessions { self.old.state.local.sessions < 2 ^ 64 - 1 }
         requires calls { (thread_at self.old.state thread).calls < 2 ^ 64 - 1 }
+        requires creations { All (λ m. m.creations < 2 ^ 64 - 1) self.old.state.comms }
         ensures step { Steps self.old.state (Act.Call thread op) self.new.state result }
         ensures spare { self.old.spare ≤ self.new.spare + 1 }
     {

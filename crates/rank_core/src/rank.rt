@@ -1,5 +1,5 @@
 //! The state of a rank.
-ghost use Rattle.std.specs.Prelude.{◌≡◌, ◌<◌, ◌≤◌, replicate, IfOk, OnOk, is_some, option_copied};
+ghost use Rattle.std.specs.Prelude.{◌≡◌, ◌==◌, ◌<◌, ◌≤◌, find, replicate, IfOk, OnOk, is_some, option_copied};
 ghost use Rattle.mpi_law.specs.Local.{bound_of};
 ghost use Rattle.mpi_law.specs.Settings.{IsSetting};
 ghost use Rattle.mpi_protocol.specs.Rank.{fresh, idle_thread, stage_of, round_of, session_of, session_in as session_within, thread_at, waits_on as is_waiting_on};
@@ -137,6 +137,13 @@ impl<const W: usize> RankState<W> {
         ensures { result ≡ is_some (bound_of self.now.state.local.names name.now) }
     {
         self.bound(name).is_some()
+    }
+
+    /// The communicator with a context; None where there is none here.
+    pub(crate) fn comm(&self, ctx: u16) -> Option<&CommRow>
+        ensures { option_copied result ≡ find (λ m. m.ctx == ctx) self.now.state.comms }
+    {
+        self.comms.iter().find(|row| row.ctx == ctx)
     }
 
     /// How far a creation is; None where it is not open here.

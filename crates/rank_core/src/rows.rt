@@ -1,7 +1,7 @@
 //! Changes of rows.
-ghost use Rattle.std.specs.Prelude.{◌≡◌, ◌≤◌, ◌+◌, ◌-◌, ◌^◌, ◌<◌, ◌∷◌, ◌++◌, [], get_or, set, length};
+ghost use Rattle.std.specs.Prelude.{◌≡◌, ◌≤◌, ◌+◌, ◌-◌, ◌^◌, ◌<◌, ◌∷◌, ◌++◌, [], All, get_or, set, length};
 ghost use Rattle.mpi_law.specs.Local.{bind as names_with, rebind, unbind};
-ghost use Rattle.mpi_protocol.specs.Rank.{set_stage as staged_rows, close_creation as closed_rows, drop_round as dropped_rounds, set_round as round_put, idle_thread};
+ghost use Rattle.mpi_protocol.specs.Rank.{count_creation as counted_rows, set_stage as staged_rows, close_creation as closed_rows, drop_round as dropped_rounds, set_round as round_put, idle_thread};
 ghost use Rattle.rank_core.specs.Rooms.{room_of};
 
 use mpi_base::{Key, Name};
@@ -53,14 +53,28 @@ pub(crate) fn set_round(rounds: &mut Vec<RoundRow>, key: &Key, round: u64)
 /// Adds a communicator of a key's members. There is room for it.
 pub(crate) fn add_comm(comms: &mut Vec<CommRow>, ctx: u16, key: &Key, session: u64)
     requires { 1 ≤ room_of comms.old }
-    ensures rows { comms.new.items ≡ comms.old.items ++ record { ctx = ctx; members = key.now.members; session = session } ∷ [] }
+    ensures rows { comms.new.items ≡ comms.old.items ++ record { ctx = ctx; members = key.now.members; session = session; creations = 0 } ∷ [] }
     ensures room { room_of comms.old ≤ room_of comms.new + 1 }
 {
     comms.push_reserved(CommRow {
         ctx,
         members: key.members.copy(),
         session,
+        creations: 0,
     });
+}
+
+/// Counts one more creation on a communicator.
+pub(crate) fn count_creation(comms: &mut Vec<CommRow>, ctx: u16)
+    requires { All (λ m. m.creations < 2 ^ 64 - 1) comms.old.items }
+    ensures rows { comms.new.items ≡ counted_rows comms.old.items ctx }
+    ensures room { room_of comms.old ≤ room_of comms.new }
+{
+    for row in comms.iter_mut() {
+        if row.ctx == ctx {
+            row.creations += 1;
+        }
+    }
 }
 
 /// Binds a name. There is room for it.

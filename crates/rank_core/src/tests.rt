@@ -1,6 +1,7 @@
 //! Worked examples.
 
-ghost use Rattle.std.specs.Prelude.{◌≤◌};
+ghost use Rattle.std.specs.Prelude.{◌≤◌, ◌<◌, ◌-◌, ◌^◌, All};
+ghost use Rattle.std.specs.Bool.{OnTrue};
 
 use crate::journal::Journal;
 use crate::next::StepKind;
@@ -35,6 +36,10 @@ fn create(rt: &impl Abort, group: &[u8], text: &[u8], target: &[u8]) -> Op {
     Op::Create(name(rt, group), tag(rt, text), name(rt, target))
 }
 
+fn dup(rt: &impl Abort, comm: &[u8], target: &[u8]) -> Op {
+    Op::Dup(name(rt, comm), name(rt, target))
+}
+
 /// The key of a creation from the group of one rank.
 fn key(rt: &impl Abort, text: &[u8], rank: u16) -> Key {
     Key {
@@ -46,10 +51,28 @@ fn key(rt: &impl Abort, text: &[u8], rank: u16) -> Key {
     }
 }
 
+/// The key of a duplicate of a communicator of rank 0 alone.
+fn dup_key(rt: &impl Abort, parent: u16, number: u64) -> Key {
+    Key {
+        parent,
+        kind: Kind::Dup,
+        number,
+        tag: tag(rt, b""),
+        members: group(0),
+    }
+}
+
 fn group(rank: u16) -> Members {
     let mut members = Members::none();
     let _ = members.push(rank);
     members
+}
+
+/// Whether one more creation can be counted on every communicator.
+fn can_count(rank: &RankState<1>) -> bool
+    ensures { OnTrue result (All (λ m. m.creations < 2 ^ 64 - 1) rank.now.state.comms) }
+{
+    rank.comms.iter().all(|row| row.creations < 1000)
 }
 
 fn call(
@@ -67,6 +90,7 @@ fn call(
     assert!(rt; rank.enabled(&act));
     assert!(rt; rank.sessions() < 1000);
     assert!(rt; rank.calls(thread) < 1000);
+    assert!(rt; can_count(rank));
     Ok(rank.call(thread, op).reply)
 }
 
@@ -114,6 +138,39 @@ fn refused(class: ErrClass) -> Option<Reply> {
     Some(Reply::Refused(class))
 }
 
+/// A communicator of one rank.
+fn made(ctx: u16) -> Option<Reply> {
+    Some(Reply::Comm {
+        ctx,
+        rank: 0,
+        size: 1,
+    })
+}
+
+/// The rest of a creation that thread 0 has called, where no other is open.
+fn decided(
+    rt: &impl Abort,
+    rank: &mut RankState<1>,
+    key: &Key,
+    said: Said,
+) -> Result<Option<Reply>, OutOfMemory> {
+    assert!(rt; settle(rt, rank, key)? == Some(Said::Ready));
+    assert!(rt; offer(rt, rank, key)? == Some(Said::Own));
+    assert!(rt; settle(rt, rank, key)? == Some(said));
+    answer(rt, rank, 0)
+}
+
+/// A rank alone, with a communicator `c` from its group `g`.
+fn with_comm(rt: &impl Abort, alloc: Global, contexts: u16) -> Result<RankState<1>, OutOfMemory>
+    requires { (1 ≤ contexts) × (contexts ≤ 63) }
+{
+    let mut rank = alone(rt, alloc, contexts)?;
+    assert!(rt; call(rt, &mut rank, 0, create(rt, b"g", b"a", b"c"))?.is_none());
+    let reply = decided(rt, &mut rank, &key(rt, b"a", 0), Said::Picked(1))?;
+    assert!(rt; reply == made(1));
+    Ok(rank)
+}
+
 #[test]
 fn refusals(rt: HostRuntime) -> Result<(), Fail> {
     let mut rank = alone(&rt, rt.alloc(), 63)?;
@@ -139,18 +196,8 @@ fn one_communicator(rt: HostRuntime) -> Result<(), Fail> {
     assert!(rt; reply == refused(ErrClass::Busy));
     let reply = call(&rt, &mut rank, 1, create(&rt, b"g", b"a", b"c"))?;
     assert!(rt; reply == refused(ErrClass::Arg));
-    assert!(rt; settle(&rt, &mut rank, &a)? == Some(Said::Ready));
-    assert!(rt; offer(&rt, &mut rank, &a)? == Some(Said::Own));
-    assert!(rt; settle(&rt, &mut rank, &a)? == Some(Said::Picked(1)));
-    let reply = answer(&rt, &mut rank, 0)?;
-    assert!(rt;
-        reply
-            == Some(Reply::Comm {
-                ctx: 1,
-                rank: 0,
-                size: 1
-            })
-    );
+    let reply = decided(&rt, &mut rank, &a, Said::Picked(1))?;
+    assert!(rt; reply == made(1));
     let reply = call(&rt, &mut rank, 0, session(&rt, b"c"))?;
     assert!(rt; reply == refused(ErrClass::Arg));
     Ok(())
@@ -188,6 +235,68 @@ fn two_creations(rt: HostRuntime) -> Result<(), Fail> {
     assert!(rt; offer(&rt, &mut rank, &b)? == Some(Said::Zero));
     assert!(rt; settle(&rt, &mut rank, &a)? == Some(Said::Picked(1)));
     assert!(rt; !rank.is_offered(&a));
+    Ok(())
+}
+
+#[test]
+fn duplicates(rt: HostRuntime) -> Result<(), Fail> {
+    let mut rank = with_comm(&rt, rt.alloc(), 63)?;
+    assert!(rt; call(&rt, &mut rank, 0, dup(&rt, b"c", b"d"))?.is_none());
+    let reply = decided(&rt, &mut rank, &dup_key(&rt, 1, 0), Said::Picked(2))?;
+    assert!(rt; reply == made(2));
+    assert!(rt; call(&rt, &mut rank, 0, dup(&rt, b"d", b"e"))?.is_none());
+    let reply = decided(&rt, &mut rank, &dup_key(&rt, 2, 0), Said::Picked(3))?;
+    assert!(rt; reply == made(3));
+    assert!(rt; call(&rt, &mut rank, 0, dup(&rt, b"c", b"f"))?.is_none());
+    let reply = decided(&rt, &mut rank, &dup_key(&rt, 1, 1), Said::Picked(4))?;
+    assert!(rt; reply == made(4));
+    Ok(())
+}
+
+#[test]
+fn refused_duplicates(rt: HostRuntime) -> Result<(), Fail> {
+    let mut rank = with_comm(&rt, rt.alloc(), 63)?;
+    for comm in [b"x", b"s", b"g"] {
+        let reply = call(&rt, &mut rank, 0, dup(&rt, comm, b"c"))?;
+        assert!(rt; reply == refused(ErrClass::Comm));
+    }
+    let reply = call(&rt, &mut rank, 0, dup(&rt, b"c", b"g"))?;
+    assert!(rt; reply == refused(ErrClass::Arg));
+    assert!(rt; call(&rt, &mut rank, 0, dup(&rt, b"c", b"d"))?.is_none());
+    let reply = call(&rt, &mut rank, 1, dup(&rt, b"d", b"e"))?;
+    assert!(rt; reply == refused(ErrClass::Comm));
+    let reply = decided(&rt, &mut rank, &dup_key(&rt, 1, 0), Said::Picked(2))?;
+    assert!(rt; reply == made(2));
+    Ok(())
+}
+
+#[test]
+fn exhausted_duplicates(rt: HostRuntime) -> Result<(), Fail> {
+    let mut rank = with_comm(&rt, rt.alloc(), 1)?;
+    for number in [0, 1] {
+        assert!(rt; call(&rt, &mut rank, 0, dup(&rt, b"c", b"d"))?.is_none());
+        let reply = decided(&rt, &mut rank, &dup_key(&rt, 1, number), Said::Exhausted)?;
+        assert!(rt; reply == refused(ErrClass::Exhausted));
+    }
+    Ok(())
+}
+
+#[test]
+fn creation_before_duplicate(rt: HostRuntime) -> Result<(), Fail> {
+    let mut rank = with_comm(&rt, rt.alloc(), 63)?;
+    let (from, dup_of_c) = (key(&rt, b"b", 0), dup_key(&rt, 1, 0));
+    assert!(rt; call(&rt, &mut rank, 0, dup(&rt, b"c", b"d"))?.is_none());
+    assert!(rt; call(&rt, &mut rank, 1, create(&rt, b"g", b"b", b"e"))?.is_none());
+    assert!(rt; settle(&rt, &mut rank, &dup_of_c)? == Some(Said::Ready));
+    assert!(rt; settle(&rt, &mut rank, &from)? == Some(Said::Ready));
+    assert!(rt; offer(&rt, &mut rank, &dup_of_c)? == Some(Said::Zero));
+    assert!(rt; settle(&rt, &mut rank, &dup_of_c)? == Some(Said::Retry));
+    assert!(rt; offer(&rt, &mut rank, &from)? == Some(Said::Own));
+    assert!(rt; settle(&rt, &mut rank, &from)? == Some(Said::Picked(2)));
+    assert!(rt; offer(&rt, &mut rank, &dup_of_c)? == Some(Said::Own));
+    assert!(rt; settle(&rt, &mut rank, &dup_of_c)? == Some(Said::Picked(3)));
+    assert!(rt; answer(&rt, &mut rank, 1)? == made(2));
+    assert!(rt; answer(&rt, &mut rank, 0)? == made(3));
     Ok(())
 }
 

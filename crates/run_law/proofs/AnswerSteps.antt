@@ -9,7 +9,7 @@ use Rattle.mpi_base.specs.declared.ops.Reply.TheVariants as reply
 use Rattle.mpi_law.specs.declared.rows.Bound.TheVariants.{Comm}
 use Rattle.mpi_law.specs.declared.setting.Setting.{Setting}
 use Rattle.mpi_law.specs.Local.{Local, rebind, unbind}
-use Rattle.mpi_law.specs.Registry.{Registry, RankPart, ThreadPart, Communicator, Outcome, Made, NoneFree, Wait, Idle, Reply_now, Creating, blank_creation, idle_thread as idle_part, caller_of, part_of, thread_of, with_answer, after_reply, bind_outcome, owed, owed_to, outcome_reply, place_in, registry_next}
+use Rattle.mpi_law.specs.Registry.{Registry, RankPart, ThreadPart, Communicator, Outcome, Made, NoneFree, Wait, Idle, Reply_now, Creating, blank_creation, idle_thread as idle_part, caller_of, part_of, thread_of, with_answer, after_reply, bind_outcome, owed, owed_to, outcome_reply, place_in, registry_next, called_on, comm_of}
 use Rattle.mpi_protocol.specs.declared.rows.Outcome.{Outcome as Ended}
 use Rattle.mpi_protocol.specs.declared.rows.Outcome.TheVariants as ended
 use Rattle.mpi_protocol.specs.declared.rows.Stage.{Stage}
@@ -18,14 +18,15 @@ use Rattle.mpi_protocol.specs.declared.rows.Waits.{Waits}
 use Rattle.mpi_protocol.specs.declared.rows.Waits.TheVariants.{Nothing, Creation as Creates}
 use Rattle.mpi_protocol.specs.declared.rows.ThreadRow.{ThreadRow}
 use Rattle.mpi_protocol.specs.Rank.{Rank, Offer, stage_of, round_of, thread_at, idle_thread, waits_on}
-use Rattle.mpi_protocol.specs.Step.{key_from, answered, ended as ends, answer_state, is_answerable, is_done, if_done}
+use Rattle.mpi_protocol.specs.Step.{answered, ended as ends, answer_state, is_answerable, is_done, if_done}
 use Rattle.mpi_protocol.specs.World.{rank_at}
 use Rattle.mpi_protocol.specs.Run.{reply_events}
 use Rattle.run_law.proofs.Lists.{tally, tally-set, one, set_place, get_or_past, All_map}
 use Rattle.run_law.proofs.Rows.{stage_of-close}
 use Rattle.run_law.proofs.Names.{NamesFit-rebind, NamesFit-unbind}
+use Rattle.run_law.proofs.Contexts.{is_numbered, row_at, called_on-set, one_key_of}
 use Rattle.run_law.proofs.Fits.{LocalFits, StageFits, row_of, CreationFits, WaitFits, RankFits, OfferFits, offer_fits, round_fits, is_away, is_owned, Waited, Joined}
-use Rattle.run_law.proofs.Grown.{Grows, CreationFits-grown, joined_step, threads_after}
+use Rattle.run_law.proofs.Grown.{Grows, CommFits-kept, CreationFits-grown, joined_step, threads_after}
 use Rattle.run_law.proofs.Own.{one_waiter}
 use Rattle.run_law.proofs.Threads.{others_stay}
 use Rattle.run_law.proofs.SettleSteps.{Goes}
@@ -62,14 +63,19 @@ module _ (s : Setting) (w : List Rank) (g : Registry) (r t : ℕ) (key : Key) (t
       go (inl a) = inl (a.0, a.2)
       go (inr a) = inr ((let e = a.0 in let i = h.there in λ q. grind (arith, e, i, q)), a.1)
 
+  counts : (p q : ℕ) → called_on new.creations p q ≡ called_on g.creations p q
+  unfolding new
+  counts p q = called_on-set g.creations n (with_answer (row_of g n) r) p q refl refl
+
   grows : Grows g new r
   unfolding new
   grows = record {
-    more_comms = omega arith;
     comms_stay = λ p lp. refl;
     more_rows = omega (arith, length-set g.creations n (with_answer (row_of g n) r));
     rows_stay = λ m lm other. go m other (row_after m);
-    uses_stay = λ q c ne. refl;
+    stands_stay = λ q c p e. e;
+    contexts_stay = λ q c ne. refl;
+    counts_stay = λ q p ne. counts p q;
   }
     where
       go : (m : ℕ) → ((row_of g m).group ≡ r ∷ [] → ⊥) → ((m ≡ n) × (row_of new m ≡ with_answer (row_of g n) r)) ⊎ ((m ≢ n) × (row_of new m ≡ row_of g m)) → row_of new m ≡ row_of g m
@@ -81,6 +87,10 @@ module _ (s : Setting) (w : List Rank) (g : Registry) (r t : ℕ) (key : Key) (t
   stage_after k = stage_of-close (rank_at w r).opened key k
 
   -- what the other threads wait for goes on to fit
+  numbers_stay : (k : Key) → is_numbered (rank_at w r).comms k ≡ true → is_numbered y.comms k ≡ true
+  unfolding y
+  numbers_stay k h = h
+
   waits_after : (u : ℕ) → u ≢ t → (a : Waits) (b : Wait) → (thread_at (rank_at w r) u).waits ≡ a → (get_or (part_of g r).threads u idle_part).wait ≡ b → WaitFits g r (rank_at w r) a b → WaitFits new r y a b
   waits_after u ne Nothing Idle ex ep f = tt
   waits_after u ne Nothing (Reply_now said) ex ep f = absurd f
@@ -104,11 +114,12 @@ module _ (s : Setting) (w : List Rank) (g : Registry) (r t : ℕ) (key : Key) (t
               let a : (thread_at (rank_at w r) u).waits ≡ Nothing = ap (λ (z : ThreadRow). z.waits) none in
               absurd (cc (a, ex))
       go false e (inl a) =
-          let is : k ≡ key = f.is ∙ (ap (λ (i : ℕ). key_from (row_of g i).group (row_of g i).tag) a.0 ∙ sym h.is) in
+          let f' = subst (λ (i : ℕ). CreationFits g r (rank_at w r) k to from i) a.0 f in
+          let is : k ≡ key = one_key_of g.comms r k key (row_of g n).name f'.is h.is (f'.members ∙ sym h.members) in
           let same = same_key-refl key in
           let other : same_key key key ≡ false = subst (λ (z : Key). same_key key z ≡ false) is e in
           absurd (cc (same, other))
-      go false e (inr a) = CreationFits-grown g new r r (rank_at w r) y k to from m grows a.1 (stage_after k ∙ rw e refl) f
+      go false e (inr a) = CreationFits-grown g new r r (rank_at w r) y k to from m grows a.1 (stage_after k ∙ rw e refl) (numbers_stay k f.numbered) f
 
   kept : RankFits s new r y part
   unfolding y new part idle_row next_part
@@ -127,6 +138,7 @@ module _ (s : Setting) (w : List Rank) (g : Registry) (r t : ℕ) (key : Key) (t
         offers = All_map (OfferFits (rank_at w r)) (OfferFits y) (rank_at w r).gathered offer_after f.offers;
         held = λ k a. f.held k (held_at k (same_key key k) (rw (stage_after k) at a));
         owner = λ k e. rw (stage_after k) (owner_at k (same_key key k) refl (f.owner k e));
+        comms = λ c. CommFits-kept g new r c (λ p lp. refl) (λ p. counts p r) (row_at (rank_at w r).comms c) (comm_of g.comms r c) refl (f.comms c);
         mask = f.mask;
       }
     where
@@ -199,7 +211,7 @@ module _ (s : Setting) (w : List Rank) (g : Registry) (r t : ℕ) (key : Key) (t
 
   pub answer_joined : Joined s (set w r (answer_state (rank_at w r) t key l)) (after_reply g r t (Creating n))
   unfolding new part next_part y
-  answer_joined = joined_step s w g new r y part j lt refl grows kept waited_after
+  answer_joined = joined_step s w g new r y part j lt refl grows kept waited_after (λ i q l. counts i q ∙ j.placed i q l)
 
 -- What is owed is what is answered
 
@@ -207,7 +219,7 @@ abbrev Answered : Setting → List Rank → Registry → ℕ → ℕ → Waits �
 Answered s w g r t a = Goes s g (reply_events r t (answered (rank_at w r) t a).reply) (set w r (answered (rank_at w r) t a).state)
 
 answer_done : (s : Setting) (w : List Rank) (g : Registry) (r t : ℕ) (key : Key) (target : List ℕ) (session n : ℕ) (d : Ended) → Joined s w g → r < s.ranks → t < 8 → (thread_at (rank_at w r) t).waits ≡ Creates key target session
-    → (get_or (part_of g r).threads t idle_part).wait ≡ Creating n → CreationFits g r (rank_at w r) key target session n → stage_of (rank_at w r).opened key ≡ Some (Done d) → (o : Option Outcome) → (row_of g n).outcome ≡ o → StageFits g.comms (row_of g n).group (Some (Done d)) o
+    → (get_or (part_of g r).threads t idle_part).wait ≡ Creating n → CreationFits g r (rank_at w r) key target session n → stage_of (rank_at w r).opened key ≡ Some (Done d) → (o : Option Outcome) → (row_of g n).outcome ≡ o → StageFits g.comms r (row_of g n).group (Some (Done d)) o
     → Goes s g (reply_events r t (ends (rank_at w r) t key target session d).reply) (set w r (ends (rank_at w r) t key target session d).state)
 unfolding registry_next
 answer_done s w g r t key target session n d j lt t8 waits part_waits h stage None e fit = absurd fit
@@ -216,13 +228,13 @@ answer_done s w g r t key target session n ended.Exhausted j lt t8 waits part_wa
 answer_done s w g r t key target session n (ended.Context c) j lt t8 waits part_waits h stage (Some (Made p)) e fit =
     let x = rank_at w r in
     let f = j.fits r lt in
-    let group : key.members ≡ (row_of g n).group = ap (λ (k : Key). k.members) h.is in
+    let group = h.members in
     let rank = f.rank in
     let there : owed g r t ≡ outcome_reply g.comms r (Some (Made p)) = ap (owed_to g r) part_waits ∙ ap (outcome_reply g.comms r) e in
     let made : outcome_reply g.comms r (Some (Made p)) ≡ Some (reply.Comm c (place_in (row_of g n).group r) (length (row_of g n).group)) = ap (λ (m : Communicator). Some (reply.Comm m.ctx (place_in m.members r) (length m.members))) fit.1 in
     let said : Some (reply.Comm c (place_in key.members x.rank) (length key.members)) ≡ Some (reply.Comm c (place_in (row_of g n).group r) (length (row_of g n).group)) = rw (group, rank) refl in
     let local : LocalFits g.comms r (record { names = rebind x.local.names target (Comm c session); sessions = x.local.sessions }) (bind_outcome (part_of g r).local (caller_of (row_of g n).callers r) (row_of g n).outcome) =
-    rw e (rw h.target_is (record { sessions = f.local.sessions; names = NamesFit-rebind g.comms r x.local.names (part_of g r).local.names target (Comm c session) (Comm p (caller_of (row_of g n).callers r).session) f.local.names (h.session_is, fit.0, ap (λ (m : Communicator). m.ctx) fit.1) })) in
+    rw e (rw h.target_is (record { sessions = f.local.sessions; names = NamesFit-rebind g.comms r x.local.names (part_of g r).local.names target (Comm c session) (Comm p (caller_of (row_of g n).callers r).session) f.local.names (h.session_is, fit.0) })) in
     ((there ∙ (made ∙ sym said), tt), rw part_waits (answer_joined s w g r t key target session n (ended.Context c) j lt t8 _ waits part_waits h stage (rw e refl) local))
 answer_done s w g r t key target session n ended.Exhausted j lt t8 waits part_waits h stage (Some NoneFree) e fit =
     let x = rank_at w r in
@@ -250,6 +262,6 @@ answer_goes s w g r t j lt t8 may = go (thread_at (rank_at w r) t).waits (get_or
     go (Creates key target session) (Creating n) ex ep m f =
         let d = done_is (stage_of (rank_at w r).opened key) m in
         let stage = f.stage in
-        let fit : StageFits g.comms (row_of g n).group (Some (Done d.0)) (row_of g n).outcome = rw d.1 at stage in
+        let fit : StageFits g.comms r (row_of g n).group (Some (Done d.0)) (row_of g n).outcome = rw d.1 at stage in
         let done = answer_done s w g r t key target session n d.0 j lt t8 ex ep f d.1 (row_of g n).outcome refl fit in
         subst (λ (o : Option Stage). Goes s g (reply_events r t (if_done (rank_at w r) t key target session o).reply) (set w r (if_done (rank_at w r) t key target session o).state)) (sym d.1) done

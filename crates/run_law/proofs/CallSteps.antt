@@ -1,18 +1,18 @@
 -- A call is a call of the registry, with its reply where it comes at once.
-use Rattle.std.proofs.Common.{◌≡◌, ℕ, ◌+◌, ◌<◌, ◌==◌, ◌&&◌, ◌||◌, nat_lt, if◌then◌else◌, Bool, true, false, List, [], ◌∷◌, ◌++◌, length, get_or, set, Option, Some, None, refl, sym, ap, ◌∙◌, subst, arith, length-set}
+use Rattle.std.proofs.Common.{◌≡◌, ℕ, ◌+◌, ◌<◌, ◌==◌, ◌&&◌, ◌||◌, nat_lt, if◌then◌else◌, Bool, true, false, List, [], ◌∷◌, ◌++◌, length, get_or, set, Option, Some, None, refl, sym, ap, ◌∙◌, subst, arith, length-set, ◌≢◌, ◌≤◌}
 use Rattle.std.specs.Option.{is_some, is_none}
 use Rattle.std.specs.List.{AllByRecursion}
 use Rattle.std.proofs.lemmas.Bool.Decides.{nat_tests}
 use Rattle.std.proofs.lemmas.List.{set-set}
 use Rattle.mpi_base.specs.declared.keys.Key.{Key}
 use Rattle.mpi_base.specs.Keys.{same_key}
-use Rattle.mpi_base.proofs.KeyFacts.{same_key_is, same_key-refl, same_bytes}
+use Rattle.mpi_base.proofs.KeyFacts.{same_key_is, same_key-refl}
 use Rattle.mpi_base.specs.declared.ops.Op.{Op}
 use Rattle.mpi_base.specs.declared.ops.Reply.{Reply}
 use Rattle.mpi_law.specs.declared.setting.Setting.{Setting}
 use Rattle.mpi_law.specs.ScriptLists.{is_built}
 use Rattle.mpi_law.specs.Local.{Local, Asked, Effect, Says, Joins, effect_of}
-use Rattle.mpi_law.specs.Registry.{Registry, Calls, Replies, RankPart, ThreadPart, Creation, Caller, Outcome, Wait, Idle, Reply_now, Creating, MayCall, blank_creation, idle_thread as idle_part, caller_of, is_named, is_open, undecided_place, part_of, thread_of, after_effect, after_reply, effect_at, owed, owed_to, registry_next}
+use Rattle.mpi_law.specs.Registry.{Registry, Calls, Replies, RankPart, ThreadPart, Creation, Caller, Outcome, Wait, Idle, Reply_now, Creating, MayCall, blank_creation, idle_thread as idle_part, caller_of, CreationName, Group_and_tag, same_name, name_of, group_of, called_on, comm_of, is_on, stands_for, is_open, undecided_place, part_of, thread_of, after_effect, after_reply, effect_at, owed, owed_to, registry_next}
 use Rattle.mpi_protocol.specs.declared.rows.Stage.{Stage}
 use Rattle.mpi_protocol.specs.declared.rows.Stage.TheVariants.{Called}
 use Rattle.mpi_protocol.specs.declared.rows.Waits.{Waits}
@@ -20,16 +20,18 @@ use Rattle.mpi_protocol.specs.declared.rows.Waits.TheVariants.{Nothing, Creation
 use Rattle.mpi_protocol.specs.declared.rows.ThreadRow.{ThreadRow}
 use Rattle.mpi_protocol.specs.Rank.{Rank, Offer, stage_of, round_of, thread_at, idle_thread, is_idle, waits_on}
 use Rattle.mpi_protocol.specs.Agreement.{has_offer}
-use Rattle.mpi_protocol.specs.Step.{key_from, called, joined, is_open_here, empty_mask}
+use Rattle.mpi_protocol.specs.Step.{key_of, called, joined, is_open_here, empty_mask}
 use Rattle.mpi_protocol.specs.World.{rank_at}
 use Rattle.mpi_protocol.specs.Run.{reply_events}
 use Rattle.run_law.proofs.Lists.{tally, tally-set, one, get_or-append, get_or-last, length-snoc, All_map, All_snoc}
-use Rattle.run_law.proofs.Rows.{or_else, stage_of-open, has_offer-append}
+use Rattle.run_law.proofs.Rows.{or_else, or_else_none, stage_of-open, has_offer-append}
 use Rattle.run_law.proofs.Creations.{undecided_is, undecided_bound, join-new}
 use Rattle.run_law.proofs.Names.{EffectFits, effect_fits}
+use Rattle.run_law.proofs.Contexts.{is_numbered, row_at, called_on-append, same_name_is, one_key_of}
+use Rattle.run_law.proofs.Asking.{Asks, asks}
 use Rattle.run_law.proofs.Fits.{LocalFits, StageFits, row_of, CreationFits, WaitFits, RankFits, OfferFits, offer_fits, round_fits, is_away, is_owned, Waited, Joined}
-use Rattle.run_law.proofs.Grown.{Grows, CreationFits-grown, joined_step, threads_after}
-use Rattle.run_law.proofs.Own.{open_agrees}
+use Rattle.run_law.proofs.Grown.{Grows, CommFits-kept, CreationFits-grown, joined_step, threads_after}
+use Rattle.run_law.proofs.Own.{open_agrees, same_rank}
 use Rattle.run_law.proofs.Offers.{gathers}
 use Rattle.run_law.proofs.Threads.{part_there, thread_there, others_stay}
 use Rattle.run_law.proofs.SettleSteps.{Goes}
@@ -90,7 +92,7 @@ module _ (s : Setting) (w : List Rank) (g : Registry) (r t : ℕ) (op : Op) (j :
   waits_after u Nothing (Creating n) f = absurd f
   waits_after u (Creates k to from) Idle f = absurd f
   waits_after u (Creates k to from) (Reply_now q) f = absurd f
-  waits_after u (Creates k to from) (Creating n) f = record { there = f.there; is = f.is; alone = f.alone; called = f.called; target_is = f.target_is; session_is = f.session_is; stage = f.stage }
+  waits_after u (Creates k to from) (Creating n) f = record { there = f.there; is = f.is; members = f.members; numbered = f.numbered; alone = f.alone; called = f.called; target_is = f.target_is; session_is = f.session_is; stage = f.stage }
 
   kept : RankFits s new r y part
   unfolding new y part said_part said_row
@@ -114,6 +116,7 @@ module _ (s : Setting) (w : List Rank) (g : Registry) (r t : ℕ) (op : Op) (j :
         offers = All_map (OfferFits (rank_at w r)) (OfferFits y) (rank_at w r).gathered (λ o q. record { stage = q.stage; owner = q.owner; mask = q.mask }) f.offers;
         held = f.held;
         owner = f.owner;
+        comms = λ c. CommFits-kept g new r c (λ p lp. refl) (λ p. refl) (row_at (rank_at w r).comms c) (comm_of g.comms r c) refl (f.comms c);
         mask = f.mask;
       }
 
@@ -137,7 +140,7 @@ module _ (s : Setting) (w : List Rank) (g : Registry) (r t : ℕ) (op : Op) (j :
       let after : after_effect g r t (effect_at s g r op) ≡ asked = rw effect refl in
       let owes : owed asked r t ≡ Some said = ap (λ (z : ThreadPart). owed_to asked r z.wait) thread_asked ∙ ap (λ (q : Reply). Some q) same in
       let ends : after_reply asked r t (thread_of asked r t).wait ≡ new = ap (λ (z : ThreadPart). after_reply asked r t z.wait) thread_asked ∙ replied in
-      let whole : Joined s (set w r y) new = joined_step s w g new r y part j lt refl (record { more_comms = omega arith; comms_stay = λ p lp. refl; more_rows = omega arith; rows_stay = λ n ln other. refl; uses_stay = λ q c ne. refl }) kept waited_after in
+      let whole : Joined s (set w r y) new = joined_step s w g new r y part j lt refl (record { comms_stay = λ p lp. refl; more_rows = omega arith; rows_stay = λ n ln other. refl; stands_stay = λ q c p e. e; contexts_stay = λ q c ne. refl; counts_stay = λ q p ne. refl }) kept waited_after j.placed in
       ((may, (rw after owes, tt)), rw after (subst (λ (h : Registry). Joined s (set w r y) h) (sym ends) whole))
 
 -- A creation is joined
@@ -146,31 +149,27 @@ or_else_some : (o p : Option Stage) → is_some o ≡ true → or_else o p ≡ o
 or_else_some None p e = absurd (cc (e))
 or_else_some (Some a) p e = refl
 
-or_else_none : (o : Option Stage) → or_else o None ≡ o
-or_else_none None = refl
-or_else_none (Some a) = refl
-
-stage_some : (g : Registry) (group : List ℕ) (o : Option Stage) (out : Option Outcome) → StageFits g.comms group o out → is_some o ≡ true
-stage_some g group None out f = absurd f
-stage_some g group (Some a) out f = refl
+stage_some : (g : Registry) (r : ℕ) (group : List ℕ) (o : Option Stage) (out : Option Outcome) → StageFits g.comms r group o out → is_some o ≡ true
+stage_some g r group None out f = absurd f
+stage_some g r group (Some a) out f = refl
 
 offer_some : (o : Option Stage) (own : Bool) → offer_fits o own ≡ true → is_some o ≡ true
 offer_some None own f = absurd (cc (f))
 offer_some (Some a) own f = refl
 
 module _ (s : Setting) (w : List Rank) (g : Registry) (r t : ℕ) (op : Op) (j : Joined s w g) (lt : r < s.ranks) (t8 : t < 8) (waits : (thread_at (rank_at w r) t).waits ≡ Nothing) (part_waits : (thread_of g r t).wait ≡ Idle)
-    (l m : Local) (a : Asked) (effect : effect_at s g r op ≡ Joins m a) (local : LocalFits g.comms r l m) (group : a.group ≡ r ∷ []) (free : stage_of (rank_at w r).opened (key_from a.group a.tag) ≡ None) where
+    (l m : Local) (a b : Asked) (effect : effect_at s g r op ≡ Joins m b) (local : LocalFits g.comms r l m) (target : b.target ≡ a.target) (session : b.session ≡ a.session) (q : Asks g r (rank_at w r) a.origin b.origin) where
   key : Key
-  key = key_from a.group a.tag
+  key = key_of (rank_at w r) a.origin
 
   caller : Caller
-  caller = record { rank = r; thread = t; target = a.target; session = a.session }
+  caller = record { rank = r; thread = t; target = b.target; session = b.session }
 
   row : Creation
-  row = record { group = a.group; tag = a.tag; callers = caller ∷ []; outcome = None; answered = [] }
+  row = record { name = name_of g r b.origin; group = group_of g b.origin; callers = caller ∷ []; outcome = None; answered = [] }
 
   joined_row : ThreadRow
-  joined_row = record { calls = (thread_at (rank_at w r) t).calls + 1; waits = Creates (key_from a.group a.tag) a.target a.session }
+  joined_row = record { calls = (thread_at (rank_at w r) t).calls + 1; waits = Creates (key_of (rank_at w r) a.origin) a.target a.session }
 
   joined_part : ThreadPart
   joined_part = record { calls = (thread_of g r t).calls + 1; wait = Creating (length g.creations) }
@@ -182,31 +181,43 @@ module _ (s : Setting) (w : List Rank) (g : Registry) (r t : ℕ) (op : Op) (j :
   grown = record { comms = g.comms; creations = g.creations ++ row ∷ []; ranks = set g.ranks r part' }
 
   -- no creation of this name is without an outcome: its thread would wait for the key
-  none_open : undecided_place g.creations a.group a.tag ≡ length g.creations
-  none_open = go (nat_lt (undecided_place g.creations a.group a.tag) (length g.creations)) refl
+  key_members : key.members ≡ r ∷ []
+  unfolding key
+  key_members = q.alone
+
+  key_stands : stands_for g.comms r key ≡ Some (name_of g r b.origin)
+  unfolding key
+  key_stands = q.stands
+
+  key_free : stage_of (rank_at w r).opened key ≡ None
+  unfolding key
+  key_free = q.free
+
+  none_open : undecided_place g.creations (name_of g r b.origin) ≡ length g.creations
+  none_open = go (nat_lt (undecided_place g.creations (name_of g r b.origin)) (length g.creations)) refl
     where
-      found : undecided_place g.creations a.group a.tag < length g.creations → ⊥
+      found : undecided_place g.creations (name_of g r b.origin) < length g.creations → ⊥
       found lm =
-          let un = undecided_is g.creations a.group a.tag lm in
-          let v = j.waited (undecided_place g.creations a.group a.tag) lm (grind (arith, un)) in
+          let un = undecided_is g.creations (name_of g r b.origin) lm in
+          let v = j.waited (undecided_place g.creations (name_of g r b.origin)) lm (grind (arith, un)) in
           let fq = j.fits v.rank v.rank_in in
-          at (undecided_place g.creations a.group a.tag) v un (thread_at (rank_at w v.rank) v.thread).waits (subst (λ (b : Wait). WaitFits g v.rank (rank_at w v.rank) (thread_at (rank_at w v.rank) v.thread).waits b) v.waits (fq.waits v.thread))
+          at (undecided_place g.creations (name_of g r b.origin)) v un (thread_at (rank_at w v.rank) v.thread).waits (subst (λ (c : Wait). WaitFits g v.rank (rank_at w v.rank) (thread_at (rank_at w v.rank) v.thread).waits c) v.waits (fq.waits v.thread))
         where
-          at : (n : ℕ) (v : Waited s g n) → (is_named a.group a.tag (row_of g n) && is_none (row_of g n).outcome) ≡ true → (z : Waits) → WaitFits g v.rank (rank_at w v.rank) z (Creating n) → ⊥
+          at : (n : ℕ) (v : Waited s g n) → (same_name (row_of g n).name (name_of g r b.origin) && is_none (row_of g n).outcome) ≡ true → (z : Waits) → WaitFits g v.rank (rank_at w v.rank) z (Creating n) → ⊥
           at n v un Nothing f = f
           at n v un (Creates k to from) f =
-              let gr : (row_of g n).group ≡ a.group = same_bytes (row_of g n).group a.group (grind (arith, un)) in
-              let tg : (row_of g n).tag ≡ a.tag = same_bytes (row_of g n).tag a.tag (grind (arith, un)) in
-              let alone = f.alone in
-              let here : v.rank ≡ r = cc (alone, gr, group) in
-              let is : k ≡ key_from a.group a.tag = f.is ∙ (ap (λ (ms : List ℕ). key_from ms (row_of g n).tag) gr ∙ ap (key_from a.group) tg) in
-              let none : stage_of (rank_at w v.rank).opened k ≡ None = rw (here, is) free in
+              let named : (row_of g n).name ≡ name_of g r b.origin = same_name_is (row_of g n).name (name_of g r b.origin) (grind (arith, un)) in
+              let stands : stands_for g.comms v.rank k ≡ Some (name_of g r b.origin) = f.is ∙ ap (λ (z : CreationName). Some z) named in
+              let here = same_rank s g r v.rank (rank_at w r) (part_of g r) key k (name_of g r b.origin) (j.fits r lt) key_stands key_members stands (f.members ∙ f.alone) in
+              let members : k.members ≡ key.members = f.members ∙ (f.alone ∙ (ap (λ (i : ℕ). i ∷ []) here ∙ sym key_members)) in
+              let is = one_key_of g.comms r k key (name_of g r b.origin) (subst (λ (i : ℕ). stands_for g.comms i k ≡ Some (name_of g r b.origin)) here stands) key_stands members in
+              let none : stage_of (rank_at w v.rank).opened k ≡ None = rw (here, is) key_free in
               let st = f.stage in
               (rw none at st)
 
-      go : (b : Bool) → nat_lt (undecided_place g.creations a.group a.tag) (length g.creations) ≡ b → undecided_place g.creations a.group a.tag ≡ length g.creations
+      go : (c : Bool) → nat_lt (undecided_place g.creations (name_of g r b.origin)) (length g.creations) ≡ c → undecided_place g.creations (name_of g r b.origin) ≡ length g.creations
       go true e = absurd (found (grind (arith, nat_tests, e)))
-      go false e = let bound = undecided_bound g.creations a.group a.tag in grind (arith, nat_tests, e, bound)
+      go false e = let bound = undecided_bound g.creations (name_of g r b.origin) in grind (arith, nat_tests, e, bound)
 
   row_stays : (n : ℕ) → n < length g.creations → row_of grown n ≡ row_of g n
   unfolding grown
@@ -216,26 +227,47 @@ module _ (s : Setting) (w : List Rank) (g : Registry) (r t : ℕ) (op : Op) (j :
   unfolding grown
   row_new = get_or-last g.creations row blank_creation
 
+  -- the one more creation counts for the rank alone
+  counts : (p i : ℕ) → called_on grown.creations p i ≡ called_on g.creations p i + one (is_on p (name_of g r b.origin) && (r == i))
+  unfolding grown row caller
+  counts p i =
+      let e = called_on-append g.creations row p i in
+      grind (arith, e)
+
+  elsewhere : (i p : ℕ) → i ≢ r → called_on grown.creations p i ≡ called_on g.creations p i
+  elsewhere i p ne = let e = counts p i in grind (arith, nat_tests, e, ne)
+
   grows : Grows g grown r
   unfolding grown
-  grows = record { more_comms = omega arith; comms_stay = λ p lp. refl; more_rows = omega (arith, length-snoc g.creations row); rows_stay = λ n ln other. row_stays n ln; uses_stay = λ q c ne. refl }
+  grows = record {
+    comms_stay = λ p lp. refl;
+    more_rows = omega (arith, length-snoc g.creations row);
+    rows_stay = λ n ln other. row_stays n ln;
+    stands_stay = λ i c p e. e;
+    contexts_stay = λ i c ne. refl;
+    counts_stay = λ i p ne. elsewhere i p ne;
+  }
 
   y' : Rank
   y' = joined (rank_at w r) t l a
 
-  stage_after : (k : Key) → stage_of y'.opened k ≡ or_else (stage_of (rank_at w r).opened k) (if same_key (key_from a.group a.tag) k then Some Called else None)
+  stage_after : (k : Key) → stage_of y'.opened k ≡ or_else (stage_of (rank_at w r).opened k) (if same_key (key_of (rank_at w r) a.origin) k then Some Called else None)
   unfolding y'
-  stage_after k = stage_of-open (rank_at w r).opened (key_from a.group a.tag) Called k
+  stage_after k = stage_of-open (rank_at w r).opened (key_of (rank_at w r) a.origin) Called k
 
   stage_stays : (k : Key) → is_some (stage_of (rank_at w r).opened k) ≡ true → stage_of y'.opened k ≡ stage_of (rank_at w r).opened k
   stage_stays k e = stage_after k ∙ or_else_some (stage_of (rank_at w r).opened k) _ e
 
-  stage_here : stage_of y'.opened (key_from a.group a.tag) ≡ Some Called
-  stage_here = let r = same_key-refl (key_from a.group a.tag) in stage_after (key_from a.group a.tag) ∙ (rw (free, r) refl)
+  stage_here : stage_of y'.opened (key_of (rank_at w r) a.origin) ≡ Some Called
+  stage_here = let e = same_key-refl (key_of (rank_at w r) a.origin) in stage_after (key_of (rank_at w r) a.origin) ∙ (let n = q.free in rw (n, e) refl)
 
-  gathered_after : y'.gathered ≡ (rank_at w r).gathered ++ record { key = key_from a.group a.tag; place = 0; own = false; mask = empty_mask (rank_at w r) } ∷ []
+  gathered_after : y'.gathered ≡ (rank_at w r).gathered ++ record { key = key_of (rank_at w r) a.origin; place = 0; own = false; mask = empty_mask (rank_at w r) } ∷ []
   unfolding y'
-  gathered_after = gathers (rank_at w r) r (key_from a.group a.tag) false (empty_mask (rank_at w r)) (j.fits r lt).rank group
+  gathered_after = gathers (rank_at w r) r (key_of (rank_at w r) a.origin) false (empty_mask (rank_at w r)) (j.fits r lt).rank q.alone
+
+  numbers_stay : (k : Key) → is_numbered (rank_at w r).comms k ≡ true → is_numbered y'.comms k ≡ true
+  unfolding y'
+  numbers_stay = q.numbers
 
   waits_before : (u : ℕ) (b : Waits) (c : Wait) → WaitFits g r (rank_at w r) b c → WaitFits grown r y' b c
   waits_before u Nothing Idle f = tt
@@ -244,17 +276,19 @@ module _ (s : Setting) (w : List Rank) (g : Registry) (r t : ℕ) (op : Op) (j :
   waits_before u (Creates k to from) Idle f = absurd f
   waits_before u (Creates k to from) (Reply_now q) f = absurd f
   waits_before u (Creates k to from) (Creating n) f =
-      CreationFits-grown g grown r r (rank_at w r) y' k to from n grows (row_stays n f.there) (stage_stays k (stage_some g (row_of g n).group (stage_of (rank_at w r).opened k) (row_of g n).outcome f.stage)) f
+      CreationFits-grown g grown r r (rank_at w r) y' k to from n grows (row_stays n f.there) (stage_stays k (stage_some g r (row_of g n).group (stage_of (rank_at w r).opened k) (row_of g n).outcome f.stage)) (numbers_stay k f.numbered) f
 
-  waits_here : CreationFits grown r y' (key_from a.group a.tag) a.target a.session (length g.creations)
-  unfolding grown row caller
+  waits_here : CreationFits grown r y' (key_of (rank_at w r) a.origin) a.target a.session (length g.creations)
+  unfolding grown row caller y'
   waits_here = record {
     there = omega (arith, length-snoc g.creations row);
-    is = rw row_new refl;
-    alone = rw row_new group;
+    is = rw row_new q.stands;
+    members = rw row_new q.members;
+    numbered = q.numbered;
+    alone = rw row_new (sym q.members ∙ q.alone);
     called = rw row_new (grind (arith, nat_tests));
-    target_is = rw row_new (let e : caller_of (caller ∷ []) r ≡ caller = grind (arith, nat_tests) in ap (λ (k : Caller). k.target) e);
-    session_is = rw row_new (let e : caller_of (caller ∷ []) r ≡ caller = grind (arith, nat_tests) in ap (λ (k : Caller). k.session) e);
+    target_is = rw row_new (let e : caller_of (caller ∷ []) r ≡ caller = grind (arith, nat_tests) in ap (λ (k : Caller). k.target) e ∙ target);
+    session_is = rw row_new (let e : caller_of (caller ∷ []) r ≡ caller = grind (arith, nat_tests) in ap (λ (k : Caller). k.session) e ∙ session);
     stage = rw (row_new, stage_here) tt;
   }
 
@@ -270,22 +304,26 @@ module _ (s : Setting) (w : List Rank) (g : Registry) (r t : ℕ) (op : Op) (j :
         long_part = length-set (part_of g r).threads t joined_part ∙ f.long_part;
         calls = threads_after (λ u b c. c.calls ≡ b.calls) (rank_at w r).threads (part_of g r).threads t joined_row joined_part f.long f.long_part t8 (ap (λ (n : ℕ). n + 1) (f.calls t)) (λ u ne. f.calls u);
         waits = threads_after (λ u b c. WaitFits grown r y' b.waits c.wait) (rank_at w r).threads (part_of g r).threads t joined_row joined_part f.long f.long_part t8 waits_here (λ u ne. waits_before u (thread_at (rank_at w r) u).waits (get_or (part_of g r).threads u idle_part).wait (f.waits u));
-        waiter = λ k. rw (stage_after k) (count k (same_key (key_from a.group a.tag) k) refl (f.waiter k) f.long);
-        rounds = λ k. rw (stage_after k) (round_at k (same_key (key_from a.group a.tag) k) refl (f.rounds k));
+        waiter = λ k. rw (stage_after k) (count k (same_key (key_of (rank_at w r) a.origin) k) refl (f.waiter k) f.long);
+        rounds = λ k. rw (stage_after k) (round_at k (same_key (key_of (rank_at w r) a.origin) k) refl (f.rounds k));
         offers = subst (λ (os : List Offer). AllByRecursion (OfferFits y') os) (sym gathered_after) (All_snoc (OfferFits y') (rank_at w r).gathered _ (All_map (OfferFits (rank_at w r)) (OfferFits y') (rank_at w r).gathered offer_before f.offers) offer_new);
-        held = λ k e. rw (gathered_after, has_offer-append (rank_at w r).gathered (record { key = key_from a.group a.tag; place = 0; own = false; mask = empty_mask (rank_at w r) }) k 0) (held_at k (same_key (key_from a.group a.tag) k) refl (f.held k) (rw (stage_after k) at e));
+        held = λ k e. rw (gathered_after, has_offer-append (rank_at w r).gathered (record { key = key_of (rank_at w r) a.origin; place = 0; own = false; mask = empty_mask (rank_at w r) }) k 0) (held_at k (same_key (key_of (rank_at w r) a.origin) k) refl (f.held k) (rw (stage_after k) at e));
         owner = λ k e. rw (stage_stays k (owned_some (stage_of (rank_at w r).opened k) (f.owner k e))) (f.owner k e);
+        comms = λ c. q.known grown refl (λ p. here p) c;
         mask = f.mask;
       }
     where
+      here : (p : ℕ) → called_on grown.creations p r ≡ called_on g.creations p r + one (is_on p (name_of g r b.origin))
+      here p = let e = counts p r in grind (arith, nat_tests, e)
+
       owned_some : (o : Option Stage) → is_owned o ≡ true → is_some o ≡ true
       owned_some None h = absurd (cc (h))
       owned_some (Some q) h = refl
 
-      free_at : (k : Key) → same_key (key_from a.group a.tag) k ≡ true → stage_of (rank_at w r).opened k ≡ None
-      free_at k e = subst (λ (z : Key). stage_of (rank_at w r).opened z ≡ None) (same_key_is (key_from a.group a.tag) k e) free
+      free_at : (k : Key) → same_key (key_of (rank_at w r) a.origin) k ≡ true → stage_of (rank_at w r).opened k ≡ None
+      free_at k e = subst (λ (z : Key). stage_of (rank_at w r).opened z ≡ None) (same_key_is (key_of (rank_at w r) a.origin) k e) q.free
 
-      count : (k : Key) (b : Bool) → same_key (key_from a.group a.tag) k ≡ b → tally (λ (z : ThreadRow). waits_on k z.waits) (rank_at w r).threads ≡ one (is_some (stage_of (rank_at w r).opened k)) → length (rank_at w r).threads ≡ 8
+      count : (k : Key) (b : Bool) → same_key (key_of (rank_at w r) a.origin) k ≡ b → tally (λ (z : ThreadRow). waits_on k z.waits) (rank_at w r).threads ≡ one (is_some (stage_of (rank_at w r).opened k)) → length (rank_at w r).threads ≡ 8
           → tally (λ (z : ThreadRow). waits_on k z.waits) (set (rank_at w r).threads t joined_row) ≡ one (is_some (or_else (stage_of (rank_at w r).opened k) (if b then Some Called else None)))
       count k true e old long =
           let ts = tally-set (λ (z : ThreadRow). waits_on k z.waits) (rank_at w r).threads t joined_row idle_thread (omega (arith, long, t8)) in
@@ -300,7 +338,7 @@ module _ (s : Setting) (w : List Rank) (g : Registry) (r t : ℕ) (op : Op) (j :
           let on : one (waits_on k joined_row.waits) ≡ 0 = ap one e in
           rw (or_else_none (stage_of (rank_at w r).opened k)) (omega (arith, ts, none, on, old))
 
-      round_at : (k : Key) (b : Bool) → same_key (key_from a.group a.tag) k ≡ b → round_fits (stage_of (rank_at w r).opened k) (round_of (rank_at w r).rounds k) ≡ true → round_fits (or_else (stage_of (rank_at w r).opened k) (if b then Some Called else None)) (round_of (rank_at w r).rounds k) ≡ true
+      round_at : (k : Key) (b : Bool) → same_key (key_of (rank_at w r) a.origin) k ≡ b → round_fits (stage_of (rank_at w r).opened k) (round_of (rank_at w r).rounds k) ≡ true → round_fits (or_else (stage_of (rank_at w r).opened k) (if b then Some Called else None)) (round_of (rank_at w r).rounds k) ≡ true
       round_at k true e old = let at = free_at k e in rw at (let z : round_fits None (round_of (rank_at w r).rounds k) ≡ true = rw at at old in z)
       round_at k false e old = rw (or_else_none (stage_of (rank_at w r).opened k)) old
 
@@ -311,11 +349,11 @@ module _ (s : Setting) (w : List Rank) (g : Registry) (r t : ℕ) (op : Op) (j :
         mask = q.mask;
       }
 
-      offer_new : OfferFits y' (record { key = key_from a.group a.tag; place = 0; own = false; mask = empty_mask (rank_at w r) })
+      offer_new : OfferFits y' (record { key = key_of (rank_at w r) a.origin; place = 0; own = false; mask = empty_mask (rank_at w r) })
       offer_new = record { stage = rw stage_here refl; owner = λ e. absurd (cc (e)); mask = λ e. absurd (cc (e)) }
 
-      held_at : (k : Key) (b : Bool) → same_key (key_from a.group a.tag) k ≡ b → (is_away (stage_of (rank_at w r).opened k) ≡ true → has_offer (rank_at w r).gathered k 0 ≡ true) → is_away (or_else (stage_of (rank_at w r).opened k) (if b then Some Called else None)) ≡ true
-          → (has_offer (rank_at w r).gathered k 0 || (same_key (key_from a.group a.tag) k && (0 == 0))) ≡ true
+      held_at : (k : Key) (b : Bool) → same_key (key_of (rank_at w r) a.origin) k ≡ b → (is_away (stage_of (rank_at w r).opened k) ≡ true → has_offer (rank_at w r).gathered k 0 ≡ true) → is_away (or_else (stage_of (rank_at w r).opened k) (if b then Some Called else None)) ≡ true
+          → (has_offer (rank_at w r).gathered k 0 || (same_key (key_of (rank_at w r) a.origin) k && (0 == 0))) ≡ true
       held_at k true e old h = grind (arith, e)
       held_at k false e old h = let o = old (rw (or_else_none (stage_of (rank_at w r).opened k)) at h) in grind (arith, o)
 
@@ -346,13 +384,20 @@ module _ (s : Setting) (w : List Rank) (g : Registry) (r t : ℕ) (op : Op) (j :
           let last : n ≡ length g.creations = let s = length-snoc g.creations row in grind (arith, nat_tests, e, s, ln) in
           record { rank = r; thread = t; rank_in = lt; thread_in = t8; waits = ap (λ (z : ThreadPart). z.wait) there ∙ ap Creating (sym last) }
 
+  placed : (p i : ℕ) → length g.comms ≤ p → called_on grown.creations p i ≡ 0
+  placed p i l =
+      let e = counts p i in
+      let z = j.placed p i l in
+      let o = q.placed p l in
+      grind (arith, e, z, o)
+
   pub joined_goes : Goes s g (Calls r t op false ∷ []) (set w r (joined (rank_at w r) t l a))
   unfolding registry_next grown row caller part' joined_part y'
   joined_goes =
       let may : MayCall s g r t op false = record { rank = lt; thread = t8; idle = rw part_waits refl; reply = rw effect refl } in
-      let rows = join-new g.creations a.group a.tag caller none_open in
+      let rows = join-new g.creations (name_of g r b.origin) (group_of g b.origin) caller none_open in
       let after : after_effect g r t (effect_at s g r op) ≡ grown = rw (effect, none_open, rows) refl in
-      let whole : Joined s (set w r y') grown = joined_step s w g grown r y' part' j lt refl grows kept' waited_grown in
+      let whole : Joined s (set w r y') grown = joined_step s w g grown r y' part' j lt refl grows kept' waited_grown placed in
       ((may, tt), subst (λ (h : Registry). Joined s (set w r y') h) (sym after) whole)
 
 -- a call that is enabled
@@ -363,7 +408,7 @@ call_goes s w g r t op j lt t8 idle built =
     let x = rank_at w r in
     let f = j.fits r lt in
     let both = idle_both g r x (thread_at x t).waits (get_or (part_of g r).threads t idle_part).wait idle (f.waits t) in
-    let fits = effect_fits s g.comms r (is_open_here x) (is_open g r) (open_agrees s g r x f) x.local (part_of g r).local f.local op built in
+    let fits = effect_fits s g.comms r (is_open_here x) (λ group tag. is_open g r (Group_and_tag group tag)) (open_agrees s g r x f) x.local (part_of g r).local f.local op built in
     let same : effect_of x.setting x.rank (is_open_here x) x.local op ≡ effect_of s r (is_open_here x) x.local op = ap (λ (z : Setting). effect_of z x.rank (is_open_here x) x.local op) f.setting ∙ ap (λ (i : ℕ). effect_of s i (is_open_here x) x.local op) f.rank in
     subst (λ (e : Effect). Goes s g (Calls r t op (is_some (called x t e).reply) ∷ reply_events r t (called x t e).reply) (set w r (called x t e).state)) (sym same)
     (go both.0 both.1 (effect_of s r (is_open_here x) x.local op) (effect_at s g r op) refl fits)
@@ -374,8 +419,4 @@ call_goes s w g r t op j lt t8 idle built =
     go wx wp (Says l said) (Joins m a) e fit = absurd fit
     go wx wp (Joins l a) (Says m back) e fit = absurd fit
     go wx wp (Joins l a) (Joins m b) e fit =
-        joined_goes s w g r t op j lt t8 wx wp l m a (e ∙ ap (Joins m) fit.1) fit.0 fit.2 (none_of (stage_of (rank_at w r).opened (key_from a.group a.tag)) fit.3)
-      where
-        none_of : (o : Option Stage) → is_some o ≡ false → o ≡ None
-        none_of None h = refl
-        none_of (Some q) h = absurd (cc (h))
+        joined_goes s w g r t op j lt t8 wx wp l m a b e fit.0 fit.1 fit.2 (asks s g r (rank_at w r) (part_of g r) (j.fits r lt) a.origin b.origin fit.3)

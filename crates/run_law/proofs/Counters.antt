@@ -1,5 +1,5 @@
 -- Every counter of a rank is at most the length of the journal.
-use Rattle.std.proofs.Common.{◌≡◌, ◌≢◌, ◌⊎◌, ℕ, suc, ◌+◌, ◌<◌, ◌≤◌, nat_lt, if◌then◌else◌, Bool, true, false, List, [], ◌∷◌, length, get_or, set, replicate, Option, Some, None, Result, Ok, Err, refl, sym, ap, subst, inl, inr, arith}
+use Rattle.std.proofs.Common.{◌≡◌, ◌≢◌, ◌⊎◌, ℕ, suc, ◌+◌, ◌<◌, ◌≤◌, nat_lt, if◌then◌else◌, Bool, true, false, List, [], ◌∷◌, length, get_or, set, replicate, Option, Some, None, Result, Ok, Err, refl, sym, ap, subst, inl, inr, arith, ◌==◌}
 use Rattle.std.specs.Option.{is_some}
 use Rattle.std.proofs.lemmas.Bool.Decides.{nat_tests}
 use Rattle.std.proofs.lemmas.List.FromFn.{get_or-map-range_with_len, length-map-range_with_len}
@@ -14,7 +14,7 @@ use Rattle.mpi_base.specs.declared.entries.Act.TheVariants.{Call, Answer, Offer 
 use Rattle.mpi_base.specs.declared.entries.Choice.{Choice}
 use Rattle.mpi_base.specs.declared.entries.Entry.{Entry}
 use Rattle.mpi_law.specs.declared.setting.Setting.{Setting}
-use Rattle.mpi_law.specs.Local.{Local, Effect, Says, Joins, effect_of, refusal, begin_creation, and_then, refuse_if, as_session, as_group, as_set, set_members, lacks, bound_of}
+use Rattle.mpi_law.specs.Local.{Local, Effect, Says, Joins, effect_of, refusal, begin_creation, and_then, refuse_if, as_session, as_group, as_set, set_members, lacks, bound_of, as_comm, Origin, Grouped, Duplicated}
 use Rattle.mpi_protocol.specs.declared.rows.Outcome.TheVariants as ended
 use Rattle.mpi_protocol.specs.declared.rows.Stage.{Stage}
 use Rattle.mpi_protocol.specs.declared.rows.Stage.TheVariants.{Called, Waiting, Offered, Done}
@@ -23,14 +23,16 @@ use Rattle.mpi_protocol.specs.declared.rows.Verdict.TheVariants as verdict
 use Rattle.mpi_protocol.specs.declared.rows.Waits.{Waits}
 use Rattle.mpi_protocol.specs.declared.rows.Waits.TheVariants.{Nothing, Creation as Creates}
 use Rattle.mpi_protocol.specs.declared.rows.ThreadRow.{ThreadRow}
-use Rattle.mpi_protocol.specs.Rank.{Rank, fresh, stage_of, round_of, thread_at, idle_thread}
+use Rattle.mpi_protocol.specs.Rank.{Rank, fresh, stage_of, round_of, thread_at, idle_thread, count_creation}
 use Rattle.mpi_protocol.specs.Agreement.{verdict_of}
-use Rattle.mpi_protocol.specs.Step.{step, called, answered, if_done, if_waiting, settled, is_open_here}
+use Rattle.mpi_protocol.specs.Step.{step, called, answered, if_done, if_waiting, settled, is_open_here, counted}
 use Rattle.mpi_protocol.specs.World.{opening, blank, rank_at, moved}
 use Rattle.mpi_protocol.specs.Run.{world_after, end_of}
 use Rattle.run_law.proofs.Runs.{get_or-replicate}
-use Rattle.run_law.proofs.Lists.{set_place, get_or_past}
+use Rattle.std.specs.List.{AllByRecursion}
+use Rattle.run_law.proofs.Lists.{set_place, get_or_past, All_snoc, All_map}
 use Rattle.run_law.proofs.Rows.{round_of-set, round_of-drop}
+use Rattle.mpi_protocol.specs.declared.rows.CommRow.{CommRow}
 
 -- the counts of sessions
 abbrev local_of : Effect → Local
@@ -56,11 +58,18 @@ effect_small s rank busy l (op.Pset session set target) =
     small_then l (as_session (bound_of l.names session)) _ (λ from. small_then l (as_set (set_members s rank set)) _ (λ members. small_then l (refuse_if (is_some (bound_of l.names target)) class.Arg) _ (λ q. omega arith)))
 effect_small s rank busy l (op.Create group tag target) =
     small_then l (as_group (bound_of l.names group)) _ (λ g. small_then l (refuse_if (lacks g.0 rank) class.Group) _ (λ q. small_then l (refuse_if (is_some (bound_of l.names target)) class.Arg) _ (λ q'. small_then l (refuse_if (busy g.0 tag) class.Busy) _ (λ q''. begins_small l g.0 g.1 tag target))))
+effect_small s rank busy l (op.Dup comm target) =
+    small_then l (as_comm (bound_of l.names comm)) _ (λ c. small_then l (refuse_if (is_some (bound_of l.names target)) class.Arg) _ (λ q. omega arith))
+
+-- each communicator counts at most so many creations
+abbrev AllCount : ℕ → List CommRow → Type 0
+AllCount n comms = AllByRecursion (λ m. m.creations ≤ n) comms
 
 -- how far the counters of two states of a rank lie apart
 pub record OneMore (x y : Rank) : Type 0 where
   pub sessions : y.local.sessions ≤ x.local.sessions + 1
   pub calls : (u : ℕ) → (thread_at y u).calls ≤ (thread_at x u).calls + 1
+  pub creations : (n : ℕ) → AllCount n x.comms → AllCount (n + 1) y.comms
   pub rounds : (k : Key) → (n : ℕ) → ((j : Key) → round_of x.rounds j ≤ n) → round_of y.rounds k ≤ n + 1
 
 same_rounds : (x : Rank) (k : Key) (n : ℕ) → ((j : Key) → round_of x.rounds j ≤ n) → round_of x.rounds k ≤ n + 1
@@ -68,6 +77,22 @@ same_rounds x k n h = let a = h k in omega arith
 
 same_threads : (x : Rank) (u : ℕ) → (thread_at x u).calls ≤ (thread_at x u).calls + 1
 same_threads x u = omega arith
+
+same_comms : (x : Rank) (n : ℕ) → AllCount n x.comms → AllCount (n + 1) x.comms
+same_comms x n h = All_map (λ (m : CommRow). m.creations ≤ n) (λ (m : CommRow). m.creations ≤ n + 1) x.comms (λ m l. omega (arith, l)) h
+
+-- a creation counts once
+one_creation : (comms : List CommRow) (d n : ℕ) → AllCount n comms → AllCount (n + 1) (count_creation comms d)
+one_creation [] d n h = tt
+one_creation (m ∷ ms) d n h = (by (m.ctx == d) h.0, one_creation ms d n h.1)
+  where
+    by : (b : Bool) → m.creations ≤ n → (if b then record { ctx = m.ctx; members = m.members; session = m.session; creations = m.creations + 1 } else m).creations ≤ n + 1
+    by true l = omega (arith, l)
+    by false l = omega (arith, l)
+
+one_counted : (x : Rank) (o : Origin) (n : ℕ) → AllCount n x.comms → AllCount (n + 1) (counted x.comms o)
+one_counted x (Grouped group tag) n h = same_comms x n h
+one_counted x (Duplicated d) n h = one_creation x.comms d n h
 
 -- one thread's row changes, and counts at most one call more
 changed : (x : Rank) (t u : ℕ) (a : ThreadRow) → a.calls ≤ (thread_at x t).calls + 1 → (get_or (set x.threads t a) u idle_thread).calls ≤ (thread_at x u).calls + 1
@@ -85,20 +110,20 @@ unfolding step
 step_small x (Call t o) = go (effect_of x.setting x.rank (is_open_here x) x.local o) (effect_small x.setting x.rank (is_open_here x) x.local o)
   where
     go : (e : Effect) → Small x.local e → OneMore x (called x t e).state
-    go (Says l r) h = record { sessions = h; calls = λ u. changed x t u _ (omega arith); rounds = same_rounds x }
-    go (Joins l q) h = record { sessions = h; calls = λ u. changed x t u _ (omega arith); rounds = same_rounds x }
+    go (Says l r) h = record { sessions = h; calls = λ u. changed x t u _ (omega arith); creations = same_comms x; rounds = same_rounds x }
+    go (Joins l q) h = record { sessions = h; calls = λ u. changed x t u _ (omega arith); creations = one_counted x q.origin; rounds = same_rounds x }
 step_small x (Answer t) = at (thread_at x t).waits
   where
     same : OneMore x x
-    same = record { sessions = omega arith; calls = same_threads x; rounds = same_rounds x }
+    same = record { sessions = omega arith; calls = same_threads x; creations = same_comms x; rounds = same_rounds x }
 
     done : (key : Key) (target : List ℕ) (session : ℕ) (o : Option Stage) → OneMore x (if_done x t key target session o).state
     done key target session None = same
     done key target session (Some Called) = same
     done key target session (Some (Waiting i)) = same
     done key target session (Some (Offered i own)) = same
-    done key target session (Some (Done (ended.Context c))) = record { sessions = omega arith; calls = λ u. changed x t u _ (omega arith); rounds = same_rounds x }
-    done key target session (Some (Done ended.Exhausted)) = record { sessions = omega arith; calls = λ u. changed x t u _ (omega arith); rounds = same_rounds x }
+    done key target session (Some (Done (ended.Context c))) = record { sessions = omega arith; calls = λ u. changed x t u _ (omega arith); creations = same_comms x; rounds = same_rounds x }
+    done key target session (Some (Done ended.Exhausted)) = record { sessions = omega arith; calls = λ u. changed x t u _ (omega arith); creations = same_comms x; rounds = same_rounds x }
 
     at : (w : Waits) → OneMore x (answered x t w).state
     at Nothing = same
@@ -106,12 +131,12 @@ step_small x (Answer t) = at (thread_at x t).waits
 step_small x (MakeOffer key) = go (stage_of x.opened key)
   where
     same : OneMore x x
-    same = record { sessions = omega arith; calls = same_threads x; rounds = same_rounds x }
+    same = record { sessions = omega arith; calls = same_threads x; creations = same_comms x; rounds = same_rounds x }
 
     go : (o : Option Stage) → OneMore x (if_waiting x key o).state
     go None = same
     go (Some Called) = same
-    go (Some (Waiting i)) = record { sessions = omega arith; calls = same_threads x; rounds = same_rounds x }
+    go (Some (Waiting i)) = record { sessions = omega arith; calls = same_threads x; creations = same_comms x; rounds = same_rounds x }
     go (Some (Offered i own)) = same
     go (Some (Done d)) = same
 step_small x (Settle key) = go (verdict_of x.setting.contexts x.gathered key (round_of x.rounds key))
@@ -124,19 +149,20 @@ step_small x (Settle key) = go (verdict_of x.setting.contexts x.gathered key (ro
         by false a = omega arith
 
     go : (v : Verdict) → OneMore x (settled x key (round_of x.rounds key) v).state
-    go verdict.Ready = record { sessions = omega arith; calls = same_threads x; rounds = λ k n h. rw (round_of-set x.rounds key k 1) (settles key k 1 n (omega arith) h) }
-    go verdict.Retry = record { sessions = omega arith; calls = same_threads x; rounds = λ k n h. rw (round_of-set x.rounds key k (round_of x.rounds key + 1)) (settles key k (round_of x.rounds key + 1) n (let a = h key in omega arith) h) }
-    go (verdict.Context c) = record { sessions = omega arith; calls = same_threads x; rounds = λ k n h. rw (round_of-drop x.rounds key k) (settles key k 0 n (omega arith) h) }
-    go verdict.Exhausted = record { sessions = omega arith; calls = same_threads x; rounds = λ k n h. rw (round_of-drop x.rounds key k) (settles key k 0 n (omega arith) h) }
+    go verdict.Ready = record { sessions = omega arith; calls = same_threads x; creations = same_comms x; rounds = λ k n h. rw (round_of-set x.rounds key k 1) (settles key k 1 n (omega arith) h) }
+    go verdict.Retry = record { sessions = omega arith; calls = same_threads x; creations = same_comms x; rounds = λ k n h. rw (round_of-set x.rounds key k (round_of x.rounds key + 1)) (settles key k (round_of x.rounds key + 1) n (let a = h key in omega arith) h) }
+    go (verdict.Context c) = record { sessions = omega arith; calls = same_threads x; creations = λ n h. All_snoc (λ (m : CommRow). m.creations ≤ n + 1) x.comms _ (same_comms x n h) (omega arith); rounds = λ k n h. rw (round_of-drop x.rounds key k) (settles key k 0 n (omega arith) h) }
+    go verdict.Exhausted = record { sessions = omega arith; calls = same_threads x; creations = same_comms x; rounds = λ k n h. rw (round_of-drop x.rounds key k) (settles key k 0 n (omega arith) h) }
 
 -- all counters are at most a number
 pub record IsBelow (n : ℕ) (x : Rank) : Type 0 where
   pub sessions : x.local.sessions ≤ n
   pub calls : (t : ℕ) → (thread_at x t).calls ≤ n
   pub rounds : (k : Key) → round_of x.rounds k ≤ n
+  pub creations : AllCount n x.comms
 
 below_more : (n : ℕ) (x : Rank) → IsBelow n x → IsBelow (n + 1) x
-below_more n x h = record { sessions = let a = h.sessions in omega arith; calls = λ t. (let a = h.calls t in omega arith); rounds = λ k. let a = h.rounds k in omega arith }
+below_more n x h = record { sessions = let a = h.sessions in omega arith; calls = λ t. (let a = h.calls t in omega arith); rounds = λ k. (let a = h.rounds k in omega arith); creations = same_comms x n h.creations }
 
 step_below : (n : ℕ) (w : List Rank) (c : Choice) → ((r : ℕ) → IsBelow n (rank_at w r)) → (r : ℕ) → IsBelow (n + 1) (rank_at (moved w c) r)
 step_below n w c h r = go (set_place w c.rank (step (rank_at w c.rank) c.act).state blank r)
@@ -145,7 +171,7 @@ step_below n w c h r = go (set_place w c.rank (step (rank_at w c.rank) c.act).st
     go (inl m) =
         let s = step_small (rank_at w c.rank) c.act in
         let old = h c.rank in
-        subst (λ (y : Rank). IsBelow (n + 1) y) (sym m.2) (record { sessions = let a = s.sessions in let b = old.sessions in omega arith; calls = λ t. (let a = s.calls t in let b = old.calls t in omega arith); rounds = λ k. s.rounds k n old.rounds })
+        subst (λ (y : Rank). IsBelow (n + 1) y) (sym m.2) (record { sessions = let a = s.sessions in let b = old.sessions in omega arith; calls = λ t. (let a = s.calls t in let b = old.calls t in omega arith); rounds = λ k. s.rounds k n old.rounds; creations = s.creations n old.creations })
     go (inr m) = subst (λ (y : Rank). IsBelow (n + 1) y) (sym m.1) (below_more n (rank_at w r) (h r))
 
 run_below : (n : ℕ) (w : List Rank) (journal : List Entry) → ((r : ℕ) → IsBelow n (rank_at w r)) → (r : ℕ) → IsBelow (n + length journal) (rank_at (world_after w journal) r)
@@ -167,7 +193,7 @@ counters_below s journal r =
     none q = go (nat_lt q s.ranks) refl
       where
         go : (b : Bool) → nat_lt q s.ranks ≡ b → IsBelow 0 (rank_at (opening s) q)
-        go true e = subst (λ (y : Rank). IsBelow 0 y) (sym (get_or-map-range_with_len (fresh s) 0 s.ranks q q blank (grind (arith, nat_tests, e)) (omega arith))) (record { sessions = omega arith; calls = λ t. none_called t; rounds = λ k. omega arith })
+        go true e = subst (λ (y : Rank). IsBelow 0 y) (sym (get_or-map-range_with_len (fresh s) 0 s.ranks q q blank (grind (arith, nat_tests, e)) (omega arith))) (record { sessions = omega arith; calls = λ t. none_called t; rounds = λ k. omega arith; creations = tt })
         go false e =
             let l = length-map-range_with_len (fresh s) 0 s.ranks in
-            subst (λ (y : Rank). IsBelow 0 y) (sym (get_or_past (opening s) q blank (grind (arith, nat_tests, e, l)))) (record { sessions = omega arith; calls = λ t. none_called t; rounds = λ k. omega arith })
+            subst (λ (y : Rank). IsBelow 0 y) (sym (get_or_past (opening s) q blank (grind (arith, nat_tests, e, l)))) (record { sessions = omega arith; calls = λ t. none_called t; rounds = λ k. omega arith; creations = tt })

@@ -1,14 +1,13 @@
 -- What closed means.
-use Rattle.std.proofs.Common.{◌≡◌, ℕ, zero, suc, ◌<◌, ◌&&◌, ◌||◌, not, Bool, true, false, List, [], ◌∷◌, length, get_or, Option, Some, None, bytes_eq, refl, sym, subst, arith}
+use Rattle.std.proofs.Common.{◌≡◌, ℕ, zero, suc, ◌<◌, ◌&&◌, ◌||◌, not, Bool, true, false, List, [], ◌∷◌, length, get_or, Option, Some, None, refl, sym, subst, arith, ap}
 use Rattle.std.specs.Option.{is_some, is_none}
 use Rattle.std.specs.List.{list_all, range_with_len}
 use Rattle.mpi_base.specs.declared.keys.Key.{Key}
 use Rattle.mpi_base.specs.declared.ops.Op.{Op}
 use Rattle.mpi_base.specs.declared.ops.Reply.{Reply}
-use Rattle.mpi_base.proofs.KeyFacts.{same_bytes}
 use Rattle.mpi_law.specs.declared.setting.Setting.{Setting}
 use Rattle.mpi_law.specs.ScriptLists.{AllScripts, next_op}
-use Rattle.mpi_law.specs.Registry.{Registry, Creation, MayPick, Allowed, Calls, Picks, Replies, blank_creation, has_called, is_idle_wait, owed, thread_of, undecided_place}
+use Rattle.mpi_law.specs.Registry.{Registry, Creation, MayPick, Allowed, Calls, Picks, Replies, blank_creation, has_called, is_idle_wait, owed, thread_of, undecided_place, key_place, CreationName, stands_for, place_of_name, same_name}
 use Rattle.mpi_law.specs.Closed.{is_picked_or_short, is_at_rest, is_closed}
 use Rattle.run_law.proofs.Lists.{all_range_at}
 use Rattle.run_law.proofs.Creations.{undecided_is}
@@ -33,18 +32,14 @@ closed_threads s scripts g r t h lr lt =
     let one = all_range_at (λ r. list_all (is_at_rest scripts g r) (range_with_len 0 8)) 0 s.ranks r all (omega arith) (omega arith) in
     all_range_at (is_at_rest scripts g r) 0 8 t one (omega arith) (omega arith)
 
-no_pick : (s : Setting) (scripts : AllScripts) (g : Registry) (key : Key) → is_closed s scripts g ≡ true → MayPick g key → ⊥
-no_pick s scripts g key h m =
-    let n = undecided_place g.creations key.members key.tag in
-    let un = undecided_is g.creations key.members key.tag m.there in
-    let at = row_at is_picked_or_short g.creations n (closed_rows s scripts g h) m.there in
-    let all = m.all in
-    let group = same_bytes (get_or g.creations n blank_creation).group key.members (grind (arith, un)) in
-    let called : list_all (has_called (get_or g.creations n blank_creation)) (get_or g.creations n blank_creation).group ≡ true = subst (λ (ms : List ℕ). list_all (has_called (get_or g.creations n blank_creation)) ms ≡ true) (sym group) all in
-    go (get_or g.creations n blank_creation) un at called
+no_pick : (s : Setting) (scripts : AllScripts) (g : Registry) (r : ℕ) (key : Key) → is_closed s scripts g ≡ true → MayPick g r key → ⊥
+no_pick s scripts g r key h m = named (stands_for g.comms r key) refl
   where
-    go : (c : Creation) → ((bytes_eq c.group key.members && bytes_eq c.tag key.tag) && is_none c.outcome) ≡ true → is_picked_or_short c ≡ true → list_all (has_called c) c.group ≡ true → ⊥
-    go c un at called = wrong (is_none c.outcome) (is_some c.outcome) (both c.outcome) (list_all (has_called c) c.group) (halves (bytes_eq c.group key.members && bytes_eq c.tag key.tag) (is_none c.outcome) un).1 at called
+    called : list_all (has_called (get_or g.creations (key_place g r key) blank_creation)) (get_or g.creations (key_place g r key) blank_creation).group ≡ true
+    called = subst (λ (ms : List ℕ). list_all (has_called (get_or g.creations (key_place g r key) blank_creation)) ms ≡ true) (sym m.members) m.all
+
+    go : (c : Creation) → is_none c.outcome ≡ true → is_picked_or_short c ≡ true → list_all (has_called c) c.group ≡ true → ⊥
+    go c un at all = wrong (is_none c.outcome) (is_some c.outcome) (both c.outcome) (list_all (has_called c) c.group) un at all
       where
         both : {A : Type 0} (o : Option A) → is_some o ≡ not (is_none o)
         both None = refl
@@ -53,9 +48,22 @@ no_pick s scripts g key h m =
         wrong : (n s : Bool) → s ≡ not n → (a : Bool) → n ≡ true → (s || not a) ≡ true → a ≡ true → ⊥
         wrong n s e a f g h = grind (arith, e, f, g, h)
 
+    named : (o : Option CreationName) → stands_for g.comms r key ≡ o → ⊥
+    named None e =
+        let z : key_place g r key ≡ length g.creations = ap (place_of_name g.creations) e in
+        let t = m.there in
+        omega (arith, z, t)
+    named (Some name) e =
+        let z : key_place g r key ≡ undecided_place g.creations name = ap (place_of_name g.creations) e in
+        let t = m.there in
+        let lt : undecided_place g.creations name < length g.creations = omega (arith, z, t) in
+        let un = (halves (same_name (get_or g.creations (undecided_place g.creations name) blank_creation).name name) (is_none (get_or g.creations (undecided_place g.creations name) blank_creation).outcome) (undecided_is g.creations name lt)).1 in
+        let un' : is_none (get_or g.creations (key_place g r key) blank_creation).outcome ≡ true = subst (λ (n : ℕ). is_none (get_or g.creations n blank_creation).outcome ≡ true) (sym z) un in
+        go (get_or g.creations (key_place g r key) blank_creation) un' (row_at is_picked_or_short g.creations (key_place g r key) (closed_rows s scripts g h) t) called
+
 pub picks_end : (s : Setting) (scripts : AllScripts) (g : Registry) (r : ℕ) (key : Key) (pick : Option ℕ) → is_closed s scripts g ≡ true → Allowed s g (Picks r key pick) → ⊥
-picks_end s scripts g r key None h a = no_pick s scripts g key h a.0
-picks_end s scripts g r key (Some c) h a = no_pick s scripts g key h a.0
+picks_end s scripts g r key None h a = no_pick s scripts g r key h a.0
+picks_end s scripts g r key (Some c) h a = no_pick s scripts g r key h a.0
 
 pub replies_end : (s : Setting) (scripts : AllScripts) (g : Registry) (r t : ℕ) (said : Reply) → is_closed s scripts g ≡ true → r < s.ranks → t < 8 → Allowed s g (Replies r t said) → ⊥
 replies_end s scripts g r t said h lr lt a =

@@ -1,5 +1,5 @@
 -- How the registry's part of a rank and the rank's own state belong together.
-use Rattle.std.proofs.Common.{◌≡◌, ℕ, ◌<◌, ◌==◌, ◌&&◌, not, if◌then◌else◌, nat_lt, nat_le, Bool, true, false, List, [], ◌∷◌, length, get_or, Option, Some, None}
+use Rattle.std.proofs.Common.{◌≡◌, ◌≤◌, ℕ, ◌<◌, ◌==◌, ◌&&◌, not, if◌then◌else◌, nat_lt, nat_le, Bool, true, false, List, [], ◌∷◌, length, get_or, Option, Some, None}
 use Rattle.std.specs.Option.{is_some, is_none}
 use Rattle.std.specs.List.{AllByRecursion}
 use Rattle.mpi_base.specs.declared.keys.Key.{Key}
@@ -8,7 +8,7 @@ use Rattle.mpi_law.specs.declared.rows.Bound.TheVariants as bound
 use Rattle.mpi_law.specs.declared.rows.NameRow.{NameRow}
 use Rattle.mpi_law.specs.declared.setting.Setting.{Setting}
 use Rattle.mpi_law.specs.Local.{Local}
-use Rattle.mpi_law.specs.Registry.{Registry, RankPart, Communicator, Creation, Outcome, Made, NoneFree, Wait, Idle, Reply_now, Creating, blank_comm, blank_creation, idle_thread as idle_part, in_use, caller_of, has_called, thread_of, part_of}
+use Rattle.mpi_law.specs.Registry.{Registry, RankPart, Communicator, Creation, Outcome, Made, NoneFree, Wait, Idle, Reply_now, Creating, blank_comm, blank_creation, idle_thread as idle_part, in_use, comm_of, stands_for, called_on, caller_of, has_called, thread_of, part_of}
 use Rattle.mpi_protocol.specs.declared.rows.Stage.{Stage}
 use Rattle.mpi_protocol.specs.declared.rows.Stage.TheVariants.{Called, Waiting, Offered, Done}
 use Rattle.mpi_protocol.specs.declared.rows.Outcome.TheVariants as ended
@@ -16,14 +16,15 @@ use Rattle.mpi_protocol.specs.declared.rows.Waits.{Waits}
 use Rattle.mpi_protocol.specs.declared.rows.Waits.TheVariants.{Nothing, Creation as Creates}
 use Rattle.mpi_protocol.specs.Rank.{Rank, Offer, stage_of, round_of, thread_at, waits_on}
 use Rattle.mpi_protocol.specs.Agreement.{is_key, has_offer}
-use Rattle.mpi_protocol.specs.Step.{key_from}
+use Rattle.mpi_protocol.specs.declared.rows.CommRow.{CommRow}
 use Rattle.mpi_protocol.specs.World.{rank_at}
 use Rattle.run_law.proofs.Lists.{tally, one}
+use Rattle.run_law.proofs.Contexts.{row_at, is_numbered}
 
 -- Names
 
--- one name: a communicator stands at a place of the registry's list under the context that the rank knows;
--- a group is the rank alone
+-- one name: the context that the rank knows stands for the communicator at a place of the registry's list; a group is
+-- the rank alone
 abbrev pub BoundFits : List Communicator → ℕ → Bound → Bound → Type 0
 BoundFits comms r bound.Reserved bound.Reserved = Unit {0}
 BoundFits comms r bound.Reserved (bound.Session s) = ⊥
@@ -40,7 +41,7 @@ BoundFits comms r (bound.Group ms s) (bound.Comm c q) = ⊥
 BoundFits comms r (bound.Comm c s) bound.Reserved = ⊥
 BoundFits comms r (bound.Comm c s) (bound.Session q) = ⊥
 BoundFits comms r (bound.Comm c s) (bound.Group ms q) = ⊥
-BoundFits comms r (bound.Comm c s) (bound.Comm p q) = (q ≡ s) × (p < length comms) × ((get_or comms p blank_comm).ctx ≡ c)
+BoundFits comms r (bound.Comm c s) (bound.Comm p q) = (q ≡ s) × (comm_of comms r c ≡ Some p)
 
 abbrev pub NamesFit : List Communicator → ℕ → List NameRow → List NameRow → Type 0
 NamesFit comms r [] [] = Unit {0}
@@ -55,19 +56,19 @@ pub record LocalFits (comms : List Communicator) (r : ℕ) (l m : Local) : Type 
 -- Creations
 
 -- how far a creation is at a rank, and its outcome
-abbrev pub StageFits : List Communicator → List ℕ → Option Stage → Option Outcome → Type 0
-StageFits comms group None o = ⊥
-StageFits comms group (Some Called) None = Unit {0}
-StageFits comms group (Some Called) (Some o) = ⊥
-StageFits comms group (Some (Waiting i)) None = Unit {0}
-StageFits comms group (Some (Waiting i)) (Some o) = ⊥
-StageFits comms group (Some (Offered i own)) None = Unit {0}
-StageFits comms group (Some (Offered i own)) (Some o) = ⊥
-StageFits comms group (Some (Done d)) None = ⊥
-StageFits comms group (Some (Done (ended.Context c))) (Some (Made p)) = (p < length comms) × (get_or comms p blank_comm ≡ record { ctx = c; members = group })
-StageFits comms group (Some (Done (ended.Context c))) (Some NoneFree) = ⊥
-StageFits comms group (Some (Done ended.Exhausted)) (Some (Made p)) = ⊥
-StageFits comms group (Some (Done ended.Exhausted)) (Some NoneFree) = Unit {0}
+abbrev pub StageFits : List Communicator → ℕ → List ℕ → Option Stage → Option Outcome → Type 0
+StageFits comms r group None o = ⊥
+StageFits comms r group (Some Called) None = Unit {0}
+StageFits comms r group (Some Called) (Some o) = ⊥
+StageFits comms r group (Some (Waiting i)) None = Unit {0}
+StageFits comms r group (Some (Waiting i)) (Some o) = ⊥
+StageFits comms r group (Some (Offered i own)) None = Unit {0}
+StageFits comms r group (Some (Offered i own)) (Some o) = ⊥
+StageFits comms r group (Some (Done d)) None = ⊥
+StageFits comms r group (Some (Done (ended.Context c))) (Some (Made p)) = (comm_of comms r c ≡ Some p) × (get_or comms p blank_comm ≡ record { ctx = c; members = group })
+StageFits comms r group (Some (Done (ended.Context c))) (Some NoneFree) = ⊥
+StageFits comms r group (Some (Done ended.Exhausted)) (Some (Made p)) = ⊥
+StageFits comms r group (Some (Done ended.Exhausted)) (Some NoneFree) = Unit {0}
 
 abbrev pub row_of : Registry → ℕ → Creation
 row_of g n = get_or g.creations n blank_creation
@@ -75,12 +76,14 @@ row_of g n = get_or g.creations n blank_creation
 -- a thread that waits for a key waits for the creation at this place
 pub record CreationFits (g : Registry) (r : ℕ) (x : Rank) (key : Key) (target : List ℕ) (session n : ℕ) : Type 0 where
   pub there : n < length g.creations
-  pub is : key ≡ key_from (row_of g n).group (row_of g n).tag
+  pub is : stands_for g.comms r key ≡ Some (row_of g n).name
+  pub members : key.members ≡ (row_of g n).group
+  pub numbered : is_numbered x.comms key ≡ true
   pub alone : (row_of g n).group ≡ r ∷ []
   pub called : has_called (row_of g n) r ≡ true
   pub target_is : (caller_of (row_of g n).callers r).target ≡ target
   pub session_is : (caller_of (row_of g n).callers r).session ≡ session
-  pub stage : StageFits g.comms (row_of g n).group (stage_of x.opened key) (row_of g n).outcome
+  pub stage : StageFits g.comms r (row_of g n).group (stage_of x.opened key) (row_of g n).outcome
 
 abbrev pub WaitFits : Registry → ℕ → Rank → Waits → Wait → Type 0
 WaitFits g r x Nothing Idle = Unit {0}
@@ -89,6 +92,16 @@ WaitFits g r x Nothing (Creating n) = ⊥
 WaitFits g r x (Creates key target session) Idle = ⊥
 WaitFits g r x (Creates key target session) (Reply_now said) = ⊥
 WaitFits g r x (Creates key target session) (Creating n) = CreationFits g r x key target session n
+
+-- Communicators
+
+-- what a rank knows of a communicator of its own, which has no other member
+abbrev pub CommFits : Registry → ℕ → Option CommRow → Option ℕ → Type 0
+CommFits g r None None = Unit {0}
+CommFits g r None (Some p) = ⊥
+CommFits g r (Some m) None = ⊥
+CommFits g r (Some m) (Some p) =
+    (m.members ≡ (get_or g.comms p blank_comm).members) × (m.members ≡ r ∷ []) × (m.creations ≡ called_on g.creations p r)
 
 -- The agreement
 
@@ -141,6 +154,7 @@ pub record RankFits (s : Setting) (g : Registry) (r : ℕ) (x : Rank) (p : RankP
   pub offers : AllByRecursion (OfferFits x) x.gathered
   pub held : (k : Key) → is_away (stage_of x.opened k) ≡ true → has_offer x.gathered k 0 ≡ true
   pub owner : (k : Key) → is_key x.owner k ≡ true → is_owned (stage_of x.opened k) ≡ true
+  pub comms : (c : ℕ) → CommFits g r (row_at x.comms c) (comm_of g.comms r c)
   pub mask : (c : ℕ) → get_or x.mask c false ≡ (nat_lt 0 c && (nat_le c s.contexts && not (in_use g.comms r c)))
 
 -- a creation without an outcome has a thread that waits for it
@@ -156,3 +170,4 @@ pub record Joined (s : Setting) (w : List Rank) (g : Registry) : Type 0 where
   pub parts : length g.ranks ≡ s.ranks
   pub fits : (r : ℕ) → r < s.ranks → RankFits s g r (rank_at w r) (part_of g r)
   pub waited : (n : ℕ) → n < length g.creations → is_none (row_of g n).outcome ≡ true → Waited s g n
+  pub placed : (p r : ℕ) → length g.comms ≤ p → called_on g.creations p r ≡ 0

@@ -1,5 +1,6 @@
 pub mod Lists
 pub mod Rows
+pub mod Contexts
 pub mod Creations
 pub mod Fits
 pub mod Names
@@ -8,10 +9,12 @@ pub mod Own
 pub mod Offers
 pub mod Settles
 pub mod Decides
+pub mod Made
 pub mod Picks
 pub mod SettleSteps
 pub mod Threads
 pub mod AnswerSteps
+pub mod Asking
 pub mod CallSteps
 pub mod Runs
 pub mod Apart
@@ -21,3 +24,4 @@ pub mod Solos
 pub mod Called
 pub mod Counters
 pub mod Goes
+pub mod Standing

@@ -1,5 +1,5 @@
 -- What a call of an operation does, at a rank and in the registry.
-use Rattle.std.proofs.Common.{◌≡◌, ℕ, ◌+◌, ◌<◌, ◌≤◌, not, if◌then◌else◌, Bool, true, false, List, [], ◌∷◌, length, get_or, find, option_map, Option, Some, None, Result, Ok, bytes_eq, refl, sym, ap, ◌∙◌, subst, arith}
+use Rattle.std.proofs.Common.{◌≡◌, ℕ, ◌+◌, not, if◌then◌else◌, Bool, true, false, List, [], ◌∷◌, find, option_map, Option, Some, None, Result, Ok, bytes_eq, refl, sym, ap, subst, arith}
 use Rattle.std.specs.Option.{is_some}
 use Rattle.std.proofs.lemmas.Bool.Decides.{nat_tests}
 use Rattle.mpi_base.specs.declared.ops.Op.{Op}
@@ -13,8 +13,9 @@ use Rattle.mpi_law.specs.declared.rows.Bound.TheVariants as bound
 use Rattle.mpi_law.specs.declared.rows.NameRow.{NameRow}
 use Rattle.mpi_law.specs.declared.setting.Setting.{Setting}
 use Rattle.mpi_law.specs.ScriptLists.{is_built, self_set}
-use Rattle.mpi_law.specs.Local.{Local, Effect, Says, Joins, effect_of, refusal, call_session, call_pset, call_create, begin_creation, and_then, refuse_if, as_session, as_group, lacks, bound_of, bind, rebind, unbind}
-use Rattle.mpi_law.specs.Registry.{Communicator, blank_comm}
+use Rattle.mpi_law.specs.Local.{Local, Effect, Says, Joins, Origin, Grouped, Duplicated, ask, as_comm, call_dup, effect_of, refusal, call_session, call_pset, call_create, begin_creation, and_then, refuse_if, as_session, as_group, lacks, bound_of, bind, rebind, unbind}
+use Rattle.mpi_law.specs.Registry.{Communicator, comm_of}
+use Rattle.run_law.proofs.Contexts.{Stay}
 use Rattle.run_law.proofs.Fits.{BoundFits, NamesFit, LocalFits}
 
 -- what a name is bound to, on both sides
@@ -61,26 +62,34 @@ NamesFit-unbind comms r (x ∷ xs) (y ∷ ys) name h =
     go true ih = ih
     go false ih = (h.0, h.1, ih)
 
--- communicators that stay in their places keep the names fitting
-pub NamesFit-grown : (old new : List Communicator) (r : ℕ) (xs ys : List NameRow) → length old ≤ length new → ((p : ℕ) → p < length old → get_or new p blank_comm ≡ get_or old p blank_comm) → NamesFit old r xs ys → NamesFit new r xs ys
-NamesFit-grown old new r [] [] l f h = tt
-NamesFit-grown old new r [] (y ∷ ys) l f h = absurd h
-NamesFit-grown old new r (x ∷ xs) [] l f h = absurd h
-NamesFit-grown old new r (x ∷ xs) (y ∷ ys) l f h = (h.0, go x.bound y.bound h.1, NamesFit-grown old new r xs ys l f h.2)
+-- contexts that go on to stand for their communicators keep the names fitting
+pub NamesFit-grown : (old new : List Communicator) (r : ℕ) (xs ys : List NameRow) → Stay old new r → NamesFit old r xs ys → NamesFit new r xs ys
+NamesFit-grown old new r [] [] f h = tt
+NamesFit-grown old new r [] (y ∷ ys) f h = absurd h
+NamesFit-grown old new r (x ∷ xs) [] f h = absurd h
+NamesFit-grown old new r (x ∷ xs) (y ∷ ys) f h = (h.0, go x.bound y.bound h.1, NamesFit-grown old new r xs ys f h.2)
   where
     go : (a b : Bound) → BoundFits old r a b → BoundFits new r a b
     go bound.Reserved bound.Reserved k = tt
     go (bound.Session s) (bound.Session q) k = k
     go (bound.Group ms s) (bound.Group ns q) k = k
-    go (bound.Comm c s) (bound.Comm p q) k = (k.0, omega (arith, k.1, l), ap (λ (m : Communicator). m.ctx) (f p k.1) ∙ k.2)
+    go (bound.Comm c s) (bound.Comm p q) k = (k.0, f c p k.1)
     go a b k = absurd k
+
+-- what a creation comes from, on both sides: a group that is the rank alone, with no creation of this tag open; or a
+-- context, and the communicator that it stands for
+abbrev pub OriginFits : List Communicator → ℕ → (List ℕ → List ℕ → Bool) → Origin → Origin → Type 0
+OriginFits comms r busy (Grouped g t) (Grouped h u) = (h ≡ g) × (u ≡ t) × (g ≡ r ∷ []) × (busy g t ≡ false)
+OriginFits comms r busy (Grouped g t) (Duplicated p) = ⊥
+OriginFits comms r busy (Duplicated c) (Grouped h u) = ⊥
+OriginFits comms r busy (Duplicated c) (Duplicated p) = comm_of comms r c ≡ Some p
 
 -- what a call does on both sides
 abbrev pub EffectFits : List Communicator → ℕ → (List ℕ → List ℕ → Bool) → Effect → Effect → Type 0
 EffectFits comms r busy (Says l a) (Says m b) = LocalFits comms r l m × (b ≡ a)
 EffectFits comms r busy (Says l a) (Joins m b) = ⊥
 EffectFits comms r busy (Joins l a) (Says m b) = ⊥
-EffectFits comms r busy (Joins l a) (Joins m b) = LocalFits comms r l m × (b ≡ a) × (a.group ≡ r ∷ []) × (busy a.group a.tag ≡ false)
+EffectFits comms r busy (Joins l a) (Joins m b) = LocalFits comms r l m × (b.target ≡ a.target) × (b.session ≡ a.session) × OriginFits comms r busy a.origin b.origin
 
 bound_same : {comms : List Communicator} {r : ℕ} {a b : Option Bound} → BothBound comms r a b → is_some b ≡ is_some a
 bound_same neither = refl
@@ -132,7 +141,7 @@ created_fits : (comms : List Communicator) (r : ℕ) (busy : List ℕ → List �
 created_fits comms r busy l m fits tag target true open_here session e = rw (self_member r) (fits, refl)
 created_fits comms r busy l m fits tag target false true session e = rw (self_member r) (fits, refl)
 created_fits comms r busy l m fits tag target false false session e =
-    rw (self_member r) (record { sessions = fits.sessions; names = NamesFit-bind comms r l.names m.names target bound.Reserved bound.Reserved fits.names tt }, refl, refl, e)
+    rw (self_member r) (record { sessions = fits.sessions; names = NamesFit-bind comms r l.names m.names target bound.Reserved bound.Reserved fits.names tt }, refl, refl, (refl, refl, refl, e))
 
 abbrev from_group : Local → ℕ → List ℕ → List ℕ → Bool → (List ℕ → List ℕ → Bool) → Option Bound → Effect
 from_group l r tag target taken busy o =
@@ -154,6 +163,25 @@ pub create_fits : (comms : List Communicator) (r : ℕ) (busy open_at : List ℕ
 create_fits comms r busy open_at agree l m fits group tag target =
     rw (same_bound comms r l m fits target) (group_fits comms r busy open_at agree l m fits tag target (is_some (bound_of l.names target)) (bound_fits comms r l.names m.names group fits.names))
 
+-- duplicates
+abbrev from_comm : Local → List ℕ → Bool → Option Bound → Effect
+from_comm l target taken o = refusal l (and_then (as_comm o) (λ c. and_then (refuse_if taken class.Arg) (λ q. Ok (ask l (Duplicated c.0) target c.1))))
+
+comm_fits : (comms : List Communicator) (r : ℕ) (busy : List ℕ → List ℕ → Bool) (l m : Local) → LocalFits comms r l m → (target : List ℕ) (taken : Bool) {a b : Option Bound} → BothBound comms r a b
+    → EffectFits comms r busy (from_comm l target taken a) (from_comm m target taken b)
+comm_fits comms r busy l m fits target taken neither = (fits, refl)
+comm_fits comms r busy l m fits target taken (both bound.Reserved bound.Reserved h) = (fits, refl)
+comm_fits comms r busy l m fits target taken (both (bound.Session s) (bound.Session q) h) = (fits, refl)
+comm_fits comms r busy l m fits target taken (both (bound.Group ms s) (bound.Group ns q) h) = (fits, refl)
+comm_fits comms r busy l m fits target true (both (bound.Comm c s) (bound.Comm p q) h) = (fits, refl)
+comm_fits comms r busy l m fits target false (both (bound.Comm c s) (bound.Comm p q) h) =
+    (record { sessions = fits.sessions; names = NamesFit-bind comms r l.names m.names target bound.Reserved bound.Reserved fits.names tt }, refl, h.0, h.1)
+comm_fits comms r busy l m fits target taken (both a b h) = absurd h
+
+dup_fits : (comms : List Communicator) (r : ℕ) (busy : List ℕ → List ℕ → Bool) (l m : Local) → LocalFits comms r l m → (comm target : List ℕ) → EffectFits comms r busy (refusal l (call_dup l comm target)) (refusal m (call_dup m comm target))
+dup_fits comms r busy l m fits comm target =
+    rw (same_bound comms r l m fits target) (comm_fits comms r busy l m fits target (is_some (bound_of l.names target)) (bound_fits comms r l.names m.names comm fits.names))
+
 -- what any built operation does
 pub effect_fits : (s : Setting) (comms : List Communicator) (r : ℕ) (busy open_at : List ℕ → List ℕ → Bool) → ((group tag : List ℕ) → open_at group tag ≡ busy group tag) → (l m : Local) → LocalFits comms r l m → (o : Op) → is_built o ≡ true
     → EffectFits comms r busy (effect_of s r busy l o) (effect_of s r open_at m o)
@@ -161,3 +189,4 @@ unfolding effect_of
 effect_fits s comms r busy open_at agree l m fits (op.Session target) b = session_fits comms r busy l m fits target
 effect_fits s comms r busy open_at agree l m fits (op.Pset session set target) b = pset_fits s comms r busy l m fits session set target b
 effect_fits s comms r busy open_at agree l m fits (op.Create group tag target) b = create_fits comms r busy open_at agree l m fits group tag target
+effect_fits s comms r busy open_at agree l m fits (op.Dup comm target) b = dup_fits comms r busy l m fits comm target

@@ -34,27 +34,27 @@ abbrev pub is_undone_stage : Stage → Bool
 is_undone_stage s = is_undone (Some s)
 
 -- from one such stage to another a creation goes on to fit
-StageFits-undone : (comms : List Communicator) (group : List ℕ) (a : Option Stage) (b : Stage) (o : Option Outcome) → is_undone a ≡ true → is_undone (Some b) ≡ true → StageFits comms group a o → StageFits comms group (Some b) o
-StageFits-undone comms group None b o u v h = absurd h
-StageFits-undone comms group (Some (Done d)) b o u v h = absurd (cc (u))
-StageFits-undone comms group (Some Called) Called None u v h = tt
-StageFits-undone comms group (Some Called) (Waiting j) None u v h = tt
-StageFits-undone comms group (Some Called) (Offered j own) None u v h = tt
-StageFits-undone comms group (Some Called) (Done d) None u v h = absurd (cc (v))
-StageFits-undone comms group (Some Called) b (Some o) u v h = absurd h
-StageFits-undone comms group (Some (Waiting i)) Called None u v h = tt
-StageFits-undone comms group (Some (Waiting i)) (Waiting j) None u v h = tt
-StageFits-undone comms group (Some (Waiting i)) (Offered j own) None u v h = tt
-StageFits-undone comms group (Some (Waiting i)) (Done d) None u v h = absurd (cc (v))
-StageFits-undone comms group (Some (Waiting i)) b (Some o) u v h = absurd h
-StageFits-undone comms group (Some (Offered i own)) Called None u v h = tt
-StageFits-undone comms group (Some (Offered i own)) (Waiting j) None u v h = tt
-StageFits-undone comms group (Some (Offered i own)) (Offered j own') None u v h = tt
-StageFits-undone comms group (Some (Offered i own)) (Done d) None u v h = absurd (cc (v))
-StageFits-undone comms group (Some (Offered i own)) b (Some o) u v h = absurd h
+StageFits-undone : (comms : List Communicator) (r : ℕ) (group : List ℕ) (a : Option Stage) (b : Stage) (o : Option Outcome) → is_undone a ≡ true → is_undone (Some b) ≡ true → StageFits comms r group a o → StageFits comms r group (Some b) o
+StageFits-undone comms r group None b o u v h = absurd h
+StageFits-undone comms r group (Some (Done d)) b o u v h = absurd (cc (u))
+StageFits-undone comms r group (Some Called) Called None u v h = tt
+StageFits-undone comms r group (Some Called) (Waiting j) None u v h = tt
+StageFits-undone comms r group (Some Called) (Offered j own) None u v h = tt
+StageFits-undone comms r group (Some Called) (Done d) None u v h = absurd (cc (v))
+StageFits-undone comms r group (Some Called) b (Some o) u v h = absurd h
+StageFits-undone comms r group (Some (Waiting i)) Called None u v h = tt
+StageFits-undone comms r group (Some (Waiting i)) (Waiting j) None u v h = tt
+StageFits-undone comms r group (Some (Waiting i)) (Offered j own) None u v h = tt
+StageFits-undone comms r group (Some (Waiting i)) (Done d) None u v h = absurd (cc (v))
+StageFits-undone comms r group (Some (Waiting i)) b (Some o) u v h = absurd h
+StageFits-undone comms r group (Some (Offered i own)) Called None u v h = tt
+StageFits-undone comms r group (Some (Offered i own)) (Waiting j) None u v h = tt
+StageFits-undone comms r group (Some (Offered i own)) (Offered j own') None u v h = tt
+StageFits-undone comms r group (Some (Offered i own)) (Done d) None u v h = absurd (cc (v))
+StageFits-undone comms r group (Some (Offered i own)) b (Some o) u v h = absurd h
 
 -- one key goes from one such stage to another: what threads wait for goes on to fit
-module _ (g : Registry) (r : ℕ) (x y : Rank) (key : Key) (b : Stage) (undone : is_undone (stage_of x.opened key) ≡ true) (next : is_undone (Some b) ≡ true) (opened : y.opened ≡ set_stage x.opened key b) where
+module _ (g : Registry) (r : ℕ) (x y : Rank) (key : Key) (b : Stage) (undone : is_undone (stage_of x.opened key) ≡ true) (next : is_undone (Some b) ≡ true) (opened : y.opened ≡ set_stage x.opened key b) (comms : y.comms ≡ x.comms) where
   pub stages : (k : Key) → stage_of y.opened k ≡ (if same_key key k then Some b else stage_of x.opened k)
   stages k = ap (λ (os : List CreationRow). stage_of os k) opened ∙ (stage_of-set x.opened key b k ∙ go (same_key key k) refl)
     where
@@ -78,6 +78,8 @@ module _ (g : Registry) (r : ℕ) (x y : Rank) (key : Key) (b : Stage) (undone :
   waits_on_undone (Creates k target session) (Creating n) h = record {
     there = h.there;
     is = h.is;
+    members = h.members;
+    numbered = rw comms h.numbered;
     alone = h.alone;
     called = h.called;
     target_is = h.target_is;
@@ -85,10 +87,10 @@ module _ (g : Registry) (r : ℕ) (x y : Rank) (key : Key) (b : Stage) (undone :
     stage = rw (stages k) (go (same_key key k) refl);
   }
     where
-      go : (t : Bool) → same_key key k ≡ t → StageFits g.comms (row_of g n).group (if t then Some b else stage_of x.opened k) (row_of g n).outcome
+      go : (t : Bool) → same_key key k ≡ t → StageFits g.comms r (row_of g n).group (if t then Some b else stage_of x.opened k) (row_of g n).outcome
       go true e =
           let is = same_key_is key k e in
-          StageFits-undone g.comms (row_of g n).group (stage_of x.opened k) b (row_of g n).outcome (subst (λ (q : Key). is_undone (stage_of x.opened q) ≡ true) is undone) next h.stage
+          StageFits-undone g.comms r (row_of g n).group (stage_of x.opened k) b (row_of g n).outcome (subst (λ (q : Key). is_undone (stage_of x.opened q) ≡ true) is undone) next h.stage
       go false e = h.stage
 
   pub same_some : (k : Key) → is_some (stage_of y.opened k) ≡ is_some (stage_of x.opened k)
@@ -127,7 +129,7 @@ offer_kept s g r x p key i stage f =
     let members = own_members s g r x p f key (ap is_some stage) in
     let own = may_own x key in
     let y = (offered x key i).state in
-    let st = stages g r x y key (Offered i own) undone refl refl in
+    let st = stages g r x y key (Offered i own) undone refl refl refl in
     let gathered : y.gathered ≡ x.gathered ++ record { key = key; place = 0; own = own; mask = if own then x.mask else empty_mask x } ∷ [] = gathers x r key own (if own then x.mask else empty_mask x) f.rank members in
     record {
       rank = f.rank;
@@ -136,12 +138,13 @@ offer_kept s g r x p key i stage f =
       long = f.long;
       long_part = f.long_part;
       calls = f.calls;
-      waits = λ t. waits_on_undone g r x y key (Offered i own) undone refl refl (thread_at x t).waits (get_or p.threads t idle_part).wait (f.waits t);
-      waiter = λ k. f.waiter k ∙ ap one (sym (same_some g r x y key (Offered i own) undone refl refl k));
+      waits = λ t. waits_on_undone g r x y key (Offered i own) undone refl refl refl (thread_at x t).waits (get_or p.threads t idle_part).wait (f.waits t);
+      waiter = λ k. f.waiter k ∙ ap one (sym (same_some g r x y key (Offered i own) undone refl refl refl k));
       rounds = λ k. (let q = st k in let old = f.rounds k in rw q (round_at k (same_key key k) refl old (may_own x key)));
       offers = subst (λ (os : List Offer). AllByRecursion (OfferFits y) os) (sym gathered) (All_snoc (OfferFits y) x.gathered (made own) (All_map (OfferFits x) (OfferFits y) x.gathered (λ o. old_offer (may_own x key) refl o) f.offers) (new_offer (may_own x key) refl (st key)));
       held = λ k. (let q = st k in let old = f.held k in rw (gathered, has_offer-append x.gathered (made own) k 0) (held_at k (same_key key k) refl (stage_of y.opened k) q old));
       owner = λ k e. (let q = st k in rw q (owner_at k (same_key key k) refl (may_own x key) refl e (f.owner k)));
+      comms = f.comms;
       mask = f.mask;
     }
   where

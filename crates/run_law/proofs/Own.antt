@@ -1,18 +1,21 @@
 -- An open key of a rank: the thread that waits for it and the creation that it stands for.
-use Rattle.std.proofs.Common.{◌≡◌, ℕ, ◌<◌, ◌≤◌, nat_lt, Bool, true, false, List, [], ◌∷◌, get_or, refl, sym, ap, ◌∙◌, subst, arith}
+use Rattle.std.proofs.Common.{◌≡◌, ℕ, ◌<◌, ◌≤◌, nat_lt, Bool, true, false, List, [], ◌∷◌, get_or, refl, sym, ap, ◌∙◌, subst, arith, Some, None, Option}
 use Rattle.std.specs.Option.{is_some}
 use Rattle.mpi_base.specs.declared.keys.Key.{Key}
-use Rattle.mpi_base.specs.Keys.{same_key}
+use Rattle.std.proofs.lemmas.Bool.Decides.{nat_tests}
+use Rattle.mpi_base.specs.MemberLists.{has_rank}
 use Rattle.mpi_base.proofs.KeyFacts.{same_key_is}
 use Rattle.mpi_law.specs.declared.setting.Setting.{Setting}
-use Rattle.mpi_law.specs.Registry.{Registry, RankPart, ThreadPart, Wait, Idle, Reply_now, Creating, Creation, idle_thread as idle_part, waits_for, is_open, is_named, part_of}
+use Rattle.mpi_law.specs.Registry.{Registry, RankPart, ThreadPart, Wait, Idle, Reply_now, Creating, idle_thread as idle_part, Group_and_tag, waits_for, is_open, part_of, CreationName, stands_for, blank_comm, comm_of}
 use Rattle.mpi_protocol.specs.declared.rows.Waits.{Waits}
 use Rattle.mpi_protocol.specs.declared.rows.Waits.TheVariants.{Nothing, Creation as Creates}
 use Rattle.mpi_protocol.specs.declared.rows.ThreadRow.{ThreadRow}
 use Rattle.mpi_protocol.specs.Rank.{Rank, stage_of, thread_at, idle_thread, waits_on}
 use Rattle.mpi_protocol.specs.Step.{key_from, is_open_here}
 use Rattle.run_law.proofs.Lists.{tally, one, tally_has, tally_one, any_tally}
-use Rattle.run_law.proofs.Fits.{row_of, CreationFits, WaitFits, RankFits}
+use Rattle.mpi_protocol.specs.declared.rows.CommRow.{CommRow}
+use Rattle.run_law.proofs.Contexts.{named_alike, row_at, comm_of_is, Standing, by_group, by_parent, standing}
+use Rattle.run_law.proofs.Fits.{row_of, CreationFits, WaitFits, RankFits, CommFits}
 
 -- what a thread that waits for a key waits for
 pub record Waiter (g : Registry) (r : ℕ) (x : Rank) (p : RankPart) (key : Key) : Type 0 where
@@ -60,29 +63,48 @@ one_waiter s g r x p f key t u lt lu ht hu =
 pub own_members : (s : Setting) (g : Registry) (r : ℕ) (x : Rank) (p : RankPart) → RankFits s g r x p → (key : Key) → is_some (stage_of x.opened key) ≡ true → key.members ≡ r ∷ []
 own_members s g r x p f key e =
     let w = waiter_of s g r x p f key e in
-    ap (λ (k : Key). k.members) w.fits.is ∙ w.fits.alone
+    w.fits.members ∙ w.fits.alone
 
--- a creation is open in the registry exactly where its key is open at the rank
-pub open_agrees : (s : Setting) (g : Registry) (r : ℕ) (x : Rank) → RankFits s g r x (part_of g r) → (group tag : List ℕ) → is_open g r group tag ≡ is_open_here x group tag
-unfolding same_key
+-- a creation from a group is open in the registry exactly where its key is open at the rank
+pub open_agrees : (s : Setting) (g : Registry) (r : ℕ) (x : Rank) → RankFits s g r x (part_of g r) → (group tag : List ℕ) → is_open g r (Group_and_tag group tag) ≡ is_open_here x group tag
 open_agrees s g r x f group tag =
     let n = f.waiter (key_from group tag) in
     let lx = f.long in
     let lp = f.long_part in
-    any_tally (λ (t : ThreadPart). waits_for g group tag t.wait) (λ (t : ThreadRow). waits_on (key_from group tag) t.waits) (part_of g r).threads x.threads idle_part idle_thread (omega (arith, lx, lp)) (λ i lt. at_one (thread_at x i).waits (get_or (part_of g r).threads i idle_part).wait (f.waits i))
+    any_tally (λ (t : ThreadPart). waits_for g (Group_and_tag group tag) t.wait) (λ (t : ThreadRow). waits_on (key_from group tag) t.waits) (part_of g r).threads x.threads idle_part idle_thread (omega (arith, lx, lp)) (λ i lt. at_one (thread_at x i).waits (get_or (part_of g r).threads i idle_part).wait (f.waits i))
     ∙ (ap (nat_lt 0) n ∙ tells (is_some (stage_of x.opened (key_from group tag))))
   where
     tells : (b : Bool) → nat_lt 0 (one b) ≡ b
     tells true = refl
     tells false = refl
 
-    named : (c : Creation) → is_named group tag c ≡ same_key (key_from c.group c.tag) (key_from group tag)
-    named c = grind (arith)
-
-    at_one : (a : Waits) (b : Wait) → WaitFits g r x a b → waits_for g group tag b ≡ waits_on (key_from group tag) a
+    at_one : (a : Waits) (b : Wait) → WaitFits g r x a b → waits_for g (Group_and_tag group tag) b ≡ waits_on (key_from group tag) a
     at_one Nothing Idle h = refl
     at_one Nothing (Reply_now said) h = absurd h
     at_one Nothing (Creating m) h = absurd h
     at_one (Creates k target session) Idle h = absurd h
     at_one (Creates k target session) (Reply_now said) h = absurd h
-    at_one (Creates k target session) (Creating m) h = named (row_of g m) ∙ ap (λ (q : Key). same_key q (key_from group tag)) (sym h.is)
+    at_one (Creates k target session) (Creating m) h = named_alike g.comms r k (row_of g m).name group tag h.is
+
+-- a name is that of keys of one rank alone
+pub same_rank : (s : Setting) (g : Registry) (r q : ℕ) (x : Rank) (p : RankPart) (k j : Key) (name : CreationName) → RankFits s g r x p → stands_for g.comms r k ≡ Some name → k.members ≡ r ∷ [] → stands_for g.comms q j ≡ Some name → j.members ≡ q ∷ [] → q ≡ r
+same_rank s g r q x p k j name f a m b n = go (standing g.comms r k name a) (standing g.comms q j name b)
+  where
+    member : (i : ℕ) (o : Option CommRow) (z : Option ℕ) → CommFits g r o z → z ≡ Some i → has_rank (get_or g.comms i blank_comm).members q ≡ true → q ≡ r
+    member i None None h e l = absurd (cc (e))
+    member i None (Some y) h e l = absurd h
+    member i (Some row) None h e l = absurd h
+    member i (Some row) (Some y) h e l =
+        let is : y ≡ i = cc (e) in
+        let alone : (get_or g.comms i blank_comm).members ≡ r ∷ [] = ap (λ (u : ℕ). (get_or g.comms u blank_comm).members) (sym is) ∙ (sym h.0 ∙ h.1) in
+        let live : has_rank (r ∷ []) q ≡ true = subst (λ (ms : List ℕ). has_rank ms q ≡ true) alone l in
+        grind (arith, nat_tests, live)
+
+    go : Standing g.comms r k name → Standing g.comms q j name → q ≡ r
+    go (by_group t u v e) (by_group t' u' v' e') = cc (e, e', m, n)
+    go (by_group t u v e) (by_parent i t' u' c' e') = absurd (cc (e, e'))
+    go (by_parent i t u c e) (by_group t' u' v' e') = absurd (cc (e, e'))
+    go (by_parent i t u c e) (by_parent i' t' u' c' e') =
+        let same : i' ≡ i = cc (e, e') in
+        let live = (comm_of_is g.comms q j.parent i' c').live in
+        member i (row_at x.comms k.parent) (comm_of g.comms r k.parent) (f.comms k.parent) c (subst (λ (y : ℕ). has_rank (get_or g.comms y blank_comm).members q ≡ true) same live)

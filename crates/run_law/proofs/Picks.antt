@@ -7,7 +7,7 @@ use Rattle.mpi_base.specs.declared.keys.Key.{Key}
 use Rattle.mpi_base.specs.Keys.{same_key}
 use Rattle.mpi_base.proofs.KeyFacts.{same_key_tells, same_key_is, same_key-refl}
 use Rattle.mpi_law.specs.declared.setting.Setting.{Setting}
-use Rattle.mpi_law.specs.Registry.{Registry, RankPart, Outcome, Wait, Idle, Reply_now, Creating, MayPick, IsFree, AllInUse, blank_creation, idle_thread as idle_part, in_use, undecided_place, with_outcome, decide, stands_for_name}
+use Rattle.mpi_law.specs.Registry.{Registry, RankPart, Outcome, Wait, Idle, Reply_now, Creating, MayPick, IsFree, AllInUse, blank_creation, idle_thread as idle_part, in_use, with_outcome, decide, key_place, comm_of, stands_for}
 use Rattle.mpi_protocol.specs.declared.rows.CommRow.{CommRow}
 use Rattle.mpi_protocol.specs.declared.rows.Outcome.{Outcome as Ended}
 use Rattle.mpi_protocol.specs.declared.rows.Stage.{Stage}
@@ -17,11 +17,11 @@ use Rattle.mpi_protocol.specs.declared.rows.Waits.TheVariants.{Nothing, Creation
 use Rattle.mpi_protocol.specs.declared.rows.ThreadRow.{ThreadRow}
 use Rattle.mpi_protocol.specs.Rank.{Rank, Offer, stage_of, round_of, thread_at, idle_thread, waits_on, set_stage, drop_round, drop_offers}
 use Rattle.mpi_protocol.specs.Agreement.{is_key, let_go, has_offer, all_own, is_common, least_common}
-use Rattle.mpi_protocol.specs.Step.{key_from}
 use Rattle.run_law.proofs.Lists.{one, set_place, get_or_past}
 use Rattle.run_law.proofs.Rows.{stage_of-set, round_of-drop, has_offer-drop, All_dropped, common_from}
-use Rattle.run_law.proofs.Fits.{StageFits, row_of, CreationFits, WaitFits, RankFits, OfferFits, offer_fits, round_fits, is_away, is_owned}
+use Rattle.run_law.proofs.Fits.{StageFits, row_of, CreationFits, WaitFits, CommFits, RankFits, OfferFits, offer_fits, round_fits, is_away, is_owned}
 use Rattle.run_law.proofs.Grown.{Grows, CreationFits-grown, LocalFits-grown}
+use Rattle.run_law.proofs.Contexts.{row_at, is_numbered, stands_on, one_key_of}
 use Rattle.run_law.proofs.Own.{one_waiter}
 use Rattle.run_law.proofs.Offers.{is_undone}
 use Rattle.run_law.proofs.Settles.{is_key-let_go, Settling, settling_undone}
@@ -29,10 +29,10 @@ use Rattle.run_law.proofs.Decides.{find_range, find_range_none, Deciding}
 
 -- When it is allowed
 
-pub may_pick : (s : Setting) (g : Registry) (r : ℕ) (x : Rank) (p : RankPart) (key : Key) → Deciding g r x p key → MayPick g key
+pub may_pick : (s : Setting) (g : Registry) (r : ℕ) (x : Rank) (p : RankPart) (key : Key) → Deciding g r x p key → MayPick g r key
 may_pick s g r x p key d = record {
-  named = subst (λ (k : Key). stands_for_name k ≡ true) (sym d.waiter.fits.is) refl;
   there = (let e = d.place in let t = d.waiter.fits.there in omega (arith, e, t));
+  members = rw d.place (sym d.waiter.fits.members);
   all = (let c = d.waiter.fits.called in rw (d.place, d.members) (rw c refl));
 }
 
@@ -88,9 +88,9 @@ none_free s g r x p key f members q all e = λ c lo hi. rw members (go c lo hi (
 
 -- What it leaves
 
-pub decided_rows : (g : Registry) (key : Key) (n m : ℕ) (o : Outcome) → undecided_place g.creations key.members key.tag ≡ n → n < length g.creations
-    → ((m ≡ n) × (get_or (decide g key o) m blank_creation ≡ with_outcome (row_of g n) o)) ⊎ ((m ≢ n) × (get_or (decide g key o) m blank_creation ≡ row_of g m))
-decided_rows g key n m o e lt = rw e (go (set_place g.creations n (with_outcome (row_of g n) o) blank_creation m))
+pub decided_rows : (g : Registry) (r : ℕ) (key : Key) (n m : ℕ) (o : Outcome) → key_place g r key ≡ n → n < length g.creations
+    → ((m ≡ n) × (get_or (decide g r key o) m blank_creation ≡ with_outcome (row_of g n) o)) ⊎ ((m ≢ n) × (get_or (decide g r key o) m blank_creation ≡ row_of g m))
+decided_rows g r key n m o e lt = rw e (go (set_place g.creations n (with_outcome (row_of g n) o) blank_creation m))
   where
     go : (((m ≡ n) × (n < length g.creations) × (get_or (set g.creations n (with_outcome (row_of g n) o)) m blank_creation ≡ with_outcome (row_of g n) o)) ⊎ (((m ≢ n) ⊎ (length g.creations ≤ n)) × (get_or (set g.creations n (with_outcome (row_of g n) o)) m blank_creation ≡ row_of g m)))
         → ((m ≡ n) × (get_or (set g.creations n (with_outcome (row_of g n) o)) m blank_creation ≡ with_outcome (row_of g n) o)) ⊎ ((m ≢ n) × (get_or (set g.creations n (with_outcome (row_of g n) o)) m blank_creation ≡ row_of g m))
@@ -104,10 +104,10 @@ decided_rank x key end mask comms =
 
 -- the key is decided at the rank, with what goes with it in the registry
 module _ (s : Setting) (g new : Registry) (r : ℕ) (x : Rank) (p : RankPart) (key : Key) (d : Deciding g r x p key) (q : Settling x key) (all : all_own x.gathered key ≡ true) (out : Outcome) (end : Ended)
-    (rows : new.creations ≡ decide g key out) (grows : Grows g new r) (fits_new : StageFits new.comms key.members (Some (Done end)) (Some out)) (f : RankFits s g r x p) (mask : List Bool) (comms : List CommRow)
-    (bits : (c : ℕ) → get_or mask c false ≡ (nat_lt 0 c && (nat_le c s.contexts && not (in_use new.comms r c)))) where
+    (rows : new.creations ≡ decide g r key out) (grows : Grows g new r) (fits_new : StageFits new.comms r key.members (Some (Done end)) (Some out)) (f : RankFits s g r x p) (mask : List Bool) (comms : List CommRow)
+    (bits : (c : ℕ) → get_or mask c false ≡ (nat_lt 0 c && (nat_le c s.contexts && not (in_use new.comms r c)))) (known : (c : ℕ) → CommFits new r (row_at comms c) (comm_of new.comms r c)) (numbers : (k : Key) → is_numbered x.comms k ≡ true → is_some (stands_for g.comms r k) ≡ true → is_numbered comms k ≡ true) where
   row_after : (m : ℕ) → ((m ≡ d.waiter.place) × (row_of new m ≡ with_outcome (row_of g d.waiter.place) out)) ⊎ ((m ≢ d.waiter.place) × (row_of new m ≡ row_of g m))
-  row_after m = rw rows (decided_rows g key d.waiter.place m out d.place d.waiter.fits.there)
+  row_after m = rw rows (decided_rows g r key d.waiter.place m out d.place d.waiter.fits.there)
 
   undone : is_undone (stage_of x.opened key) ≡ true
   undone = settling_undone x key q
@@ -145,12 +145,14 @@ module _ (s : Setting) (g new : Registry) (r : ℕ) (x : Rank) (p : RankPart) (k
   decided_fits : (k : Key) (target : List ℕ) (session : ℕ) → same_key key k ≡ true → row_of new d.waiter.place ≡ with_outcome (row_of g d.waiter.place) out → CreationFits g r x k target session d.waiter.place → CreationFits new r (decided_rank x key end mask comms) k target session d.waiter.place
   decided_fits k target session e row h = record {
     there = (let t = h.there in let m = grows.more_rows in omega (arith, t, m));
-    is = rw row h.is;
+    is = rw row (stands_on g.comms new.comms r k (row_of g d.waiter.place).name (grows.stands_stay r) h.is);
+    members = rw row h.members;
+    numbered = numbers k h.numbered (rw h.is refl);
     alone = rw row h.alone;
     called = rw row h.called;
     target_is = rw row h.target_is;
     session_is = rw row h.session_is;
-    stage = rw (row, stage_after k, e) (subst (λ (ms : List ℕ). StageFits new.comms ms (Some (Done end)) (Some out)) (ap (λ (z : Key). z.members) d.waiter.fits.is) fits_new);
+    stage = rw (row, stage_after k, e) (subst (λ (ms : List ℕ). StageFits new.comms r ms (Some (Done end)) (Some out)) d.waiter.fits.members fits_new);
   }
 
   waits_after : (t : ℕ) (a : Waits) (b : Wait) → (thread_at x t).waits ≡ a → (get_or p.threads t idle_part).wait ≡ b → WaitFits g r x a b → WaitFits new r (decided_rank x key end mask comms) a b
@@ -168,11 +170,12 @@ module _ (s : Setting) (g new : Registry) (r : ℕ) (x : Rank) (p : RankPart) (k
           subst (λ (i : ℕ). CreationFits new r (decided_rank x key end mask comms) k target session i) (sym a.0) (decided_fits k target session e row h')
       go true e (inr a) = absurd (a.0 (same_place t k target session m ex ep e))
       go false e (inl a) =
-          let is : k ≡ key = h.is ∙ (ap (λ (i : ℕ). key_from (row_of g i).group (row_of g i).tag) a.0 ∙ sym d.waiter.fits.is) in
+          let h' = subst (λ (i : ℕ). CreationFits g r x k target session i) a.0 h in
+          let is : k ≡ key = one_key_of g.comms r k key (row_of g d.waiter.place).name h'.is d.waiter.fits.is (h'.members ∙ sym d.waiter.fits.members) in
           let same = same_key-refl key in
           let no : same_key key key ≡ false = subst (λ (z : Key). same_key key z ≡ false) is e in
           absurd (cc (same, no))
-      go false e (inr a) = CreationFits-grown g new r r x (decided_rank x key end mask comms) k target session m grows a.1 (stage_after k ∙ rw e refl) h
+      go false e (inr a) = CreationFits-grown g new r r x (decided_rank x key end mask comms) k target session m grows a.1 (stage_after k ∙ rw e refl) (numbers k h.numbered (rw h.is refl)) h
 
   some_after : (k : Key) → is_some (stage_of (decided_rank x key end mask comms).opened k) ≡ is_some (stage_of x.opened k)
   some_after k = ap is_some (stage_after k) ∙ go (same_key key k) refl
@@ -209,7 +212,7 @@ module _ (s : Setting) (g new : Registry) (r : ℕ) (x : Rank) (p : RankPart) (k
   decided_kept = record {
     rank = f.rank;
     setting = f.setting;
-    local = LocalFits-grown g.comms new.comms r x.local p.local grows.more_comms grows.comms_stay f.local;
+    local = LocalFits-grown g.comms new.comms r x.local p.local (grows.stands_stay r) f.local;
     long = f.long;
     long_part = f.long_part;
     calls = f.calls;
@@ -219,6 +222,7 @@ module _ (s : Setting) (g new : Registry) (r : ℕ) (x : Rank) (p : RankPart) (k
     offers = All_dropped (OfferFits x) (OfferFits (decided_rank x key end mask comms)) x.gathered key (λ o e h. offer_after o e h) f.offers;
     owner = λ k e. rw (stage_after k) (owner_at k (same_key key k) refl (f.owner k) (rw (is_key-let_go x.owner key k) at e));
     held = λ k a. rw (has_offer-drop x.gathered key k 0) (held_at k (same_key key k) (f.held k) (rw (stage_after k) at a));
+    comms = known;
     mask = bits;
   }
     where

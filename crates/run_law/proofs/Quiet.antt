@@ -1,5 +1,5 @@
 -- Where nothing but a call may be made at any rank, the registry is closed.
-use Rattle.std.proofs.Common.{◌≡◌, ℕ, suc, ◌<◌, ◌==◌, ◌&&◌, ◌||◌, not, nat_lt, Bool, true, false, List, [], ◌∷◌, length, get_or, Option, Some, None, refl, sym, ap, ◌∙◌, subst, arith}
+use Rattle.std.proofs.Common.{◌≡◌, ℕ, suc, ◌<◌, ◌==◌, ◌&&◌, ◌||◌, not, nat_lt, Bool, true, false, List, [], ◌∷◌, length, get_or, Option, Some, None, refl, sym, ◌∙◌, subst, arith}
 use Rattle.std.specs.Option.{is_some}
 use Rattle.std.specs.List.{list_any, list_all, range_with_len}
 use Rattle.std.proofs.lemmas.Bool.Decides.{nat_tests}
@@ -47,7 +47,7 @@ module _ (s : Setting) (w : List Rank) (g : Registry) (scripts : AllScripts) (j 
   nobody_waits r t lt t8 key target session n waits f = go (stage_of (rank_at w r).opened key) refl (row_of g n).outcome f.stage
     where
       members : key.members ≡ r ∷ []
-      members = ap (λ (k : Key). k.members) f.is ∙ f.alone
+      members = f.members ∙ f.alone
 
       no_settle : is_away (stage_of (rank_at w r).opened key) ≡ true → ⊥
       no_settle away =
@@ -58,7 +58,7 @@ module _ (s : Setting) (w : List Rank) (g : Registry) (scripts : AllScripts) (j 
           let may : (is_first (rank_at w r).rank key.members && is_ready (rank_at w r).gathered key) ≡ true = rw (first, ready) refl in
           cc (may, still)
 
-      go : (o : Option Stage) → stage_of (rank_at w r).opened key ≡ o → (out : Option Outcome) → StageFits g.comms (row_of g n).group o out → ⊥
+      go : (o : Option Stage) → stage_of (rank_at w r).opened key ≡ o → (out : Option Outcome) → StageFits g.comms r (row_of g n).group o out → ⊥
       go None e out fit = fit
       go (Some Called) e out fit = no_settle (rw e refl)
       go (Some (Waiting i)) e out fit =

@@ -15,6 +15,10 @@ abbrev pub or_else : {A : Type 0} → Option A → Option A → Option A
 or_else None b = b
 or_else (Some a) b = Some a
 
+pub or_else_none : {A : Type 0} (o : Option A) → or_else o None ≡ o
+or_else_none None = refl
+or_else_none (Some a) = refl
+
 -- Stages
 
 pub stage_of-open : (xs : List CreationRow) (key : Key) (s : Stage) (k : Key) → stage_of (open_creation xs key s) k ≡ or_else (stage_of xs k) (if same_key key k then Some s else None)

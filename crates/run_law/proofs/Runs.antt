@@ -109,6 +109,7 @@ fresh_fits s r = record {
   offers = tt;
   held = λ k e. absurd (cc (e));
   owner = λ k e. absurd (cc (e));
+  comms = λ c. tt;
   mask = full_bits s.contexts;
 }
 
@@ -118,6 +119,7 @@ opening_joined s = record {
   parts = length-replicate s.ranks blank_part;
   fits = λ r lt. rw (get_or-map-range_with_len (fresh s) 0 s.ranks r r blank lt (omega arith), get_or-replicate s.ranks r blank_part) (fresh_fits s r);
   waited = λ n lt e. absurd (omega (arith, lt));
+  placed = λ p r l. refl;
 }
 
 -- what the registry sees of a protocol run, and the state in which it leaves the registry

@@ -1,12 +1,13 @@
 -- Each settle is a step that the registry does not see, or a pick.
-use Rattle.std.proofs.Common.{◌≡◌, ◌≢◌, ◌⊎◌, ℕ, zero, suc, ◌+◌, ◌<◌, ◌≤◌, ◌==◌, ◌&&◌, ◌||◌, not, nat_lt, nat_le, if◌then◌else◌, Bool, true, false, List, [], ◌∷◌, ◌++◌, length, get_or, set, Option, Some, None, refl, sym, ap, subst, inl, inr, arith, length-set}
-use Rattle.std.specs.Option.{is_none}
+use Rattle.std.proofs.Common.{◌≡◌, ◌≢◌, ◌⊎◌, ℕ, zero, suc, ◌+◌, ◌<◌, ◌==◌, ◌&&◌, ◌||◌, not, nat_lt, nat_le, if◌then◌else◌, Bool, true, false, List, [], ◌∷◌, ◌++◌, length, get_or, set, Option, Some, None, refl, sym, ap, ◌∙◌, subst, inl, inr, arith, length-set}
+use Rattle.std.specs.Option.{is_none, is_some}
+use Rattle.std.specs.List.{list_any}
 use Rattle.std.proofs.lemmas.Bool.Decides.{nat_tests}
 use Rattle.mpi_base.specs.declared.keys.Key.{Key}
 use Rattle.mpi_base.specs.MemberLists.{has_rank}
 use Rattle.mpi_base.proofs.KeyFacts.{same_key-refl}
 use Rattle.mpi_law.specs.declared.setting.Setting.{Setting}
-use Rattle.mpi_law.specs.Registry.{Registry, Event, RankPart, Communicator, Outcome, Made, NoneFree, blank_comm, blank_creation, in_use, undecided_place, with_outcome, decide, part_of, registry_next, registry_after, IsRegistryRun}
+use Rattle.mpi_law.specs.Registry.{Registry, Event, RankPart, Communicator, Outcome, Made, NoneFree, blank_comm, blank_creation, in_use, IsFree, comm_of, called_on, key_place, with_outcome, decide, part_of, registry_next, registry_after, IsRegistryRun, called_on, key_place, comm_of}
 use Rattle.mpi_protocol.specs.declared.rows.Outcome.TheVariants as ended
 use Rattle.mpi_protocol.specs.declared.rows.Verdict.{Verdict}
 use Rattle.mpi_protocol.specs.declared.rows.Verdict.TheVariants.{Ready, Retry, Context, Exhausted}
@@ -16,8 +17,10 @@ use Rattle.mpi_protocol.specs.Step.{settled, said_of}
 use Rattle.mpi_protocol.specs.World.{rank_at}
 use Rattle.mpi_protocol.specs.Run.{pick_events}
 use Rattle.run_law.proofs.Lists.{set_place, get_or_past, get_or-append, get_or-last, length-snoc}
+use Rattle.run_law.proofs.Contexts.{Stay, stay_more, in_use_is, row_at, called_on-set}
+use Rattle.run_law.proofs.Made.{made_here, made_elsewhere, made_known, made_numbers}
 use Rattle.run_law.proofs.Fits.{row_of, RankFits, Waited, Joined}
-use Rattle.run_law.proofs.Grown.{Grows, joined_step}
+use Rattle.run_law.proofs.Grown.{Grows, CommFits-kept, joined_step}
 use Rattle.run_law.proofs.Settles.{is_key-let_go, settling, settling_undone, waiting_kept, not_owned_yet}
 use Rattle.run_law.proofs.Decides.{Deciding, deciding}
 use Rattle.run_law.proofs.Picks.{may_pick, free_context, none_free, decided_rows, decided_kept}
@@ -70,32 +73,36 @@ only_self r q = grind (arith)
 
 -- What a pick leaves of the rest
 
-picked_grows : (s : Setting) (g : Registry) (r : ℕ) (x : Rank) (p : RankPart) (key : Key) (out : Outcome) (more : List Communicator) → Deciding g r x p key → length g.comms ≤ length more → ((i : ℕ) → i < length g.comms → get_or more i blank_comm ≡ get_or g.comms i blank_comm)
-    → ((q c : ℕ) → q ≢ r → in_use more q c ≡ in_use g.comms q c) → Grows g (record { comms = more; creations = decide g key out; ranks = g.ranks }) r
-picked_grows s g r x p key out more d l stay uses = record {
-  more_comms = l;
+counts : (g : Registry) (r : ℕ) (key : Key) (out : Outcome) (i q : ℕ) → called_on (decide g r key out) i q ≡ called_on g.creations i q
+counts g r key out i q = called_on-set g.creations (key_place g r key) (with_outcome (row_of g (key_place g r key)) out) i q refl refl
+
+picked_grows : (s : Setting) (g : Registry) (r : ℕ) (x : Rank) (p : RankPart) (key : Key) (out : Outcome) (more : List Communicator) → Deciding g r x p key → ((i : ℕ) → i < length g.comms → get_or more i blank_comm ≡ get_or g.comms i blank_comm)
+    → ((q : ℕ) → Stay g.comms more q) → ((q c : ℕ) → q ≢ r → comm_of more q c ≡ comm_of g.comms q c) → Grows g (record { comms = more; creations = decide g r key out; ranks = g.ranks }) r
+picked_grows s g r x p key out more d stay stands contexts = record {
   comms_stay = stay;
-  more_rows = (let e = length-set g.creations (undecided_place g.creations key.members key.tag) (with_outcome (row_of g (undecided_place g.creations key.members key.tag)) out) in omega (arith, e));
-  rows_stay = λ n lt other. go n other (decided_rows g key d.waiter.place n out d.place d.waiter.fits.there);
-  uses_stay = uses;
+  more_rows = (let e = length-set g.creations (key_place g r key) (with_outcome (row_of g (key_place g r key)) out) in omega (arith, e));
+  rows_stay = λ n lt other. go n other (decided_rows g r key d.waiter.place n out d.place d.waiter.fits.there);
+  stands_stay = stands;
+  contexts_stay = contexts;
+  counts_stay = λ q i ne. counts g r key out i q;
 }
   where
-    go : (n : ℕ) → ((row_of g n).group ≡ r ∷ [] → ⊥) → ((n ≡ d.waiter.place) × (get_or (decide g key out) n blank_creation ≡ with_outcome (row_of g d.waiter.place) out)) ⊎ ((n ≢ d.waiter.place) × (get_or (decide g key out) n blank_creation ≡ row_of g n)) → get_or (decide g key out) n blank_creation ≡ row_of g n
+    go : (n : ℕ) → ((row_of g n).group ≡ r ∷ [] → ⊥) → ((n ≡ d.waiter.place) × (get_or (decide g r key out) n blank_creation ≡ with_outcome (row_of g d.waiter.place) out)) ⊎ ((n ≢ d.waiter.place) × (get_or (decide g r key out) n blank_creation ≡ row_of g n)) → get_or (decide g r key out) n blank_creation ≡ row_of g n
     go n other (inl a) = absurd (other (subst (λ (i : ℕ). (row_of g i).group ≡ r ∷ []) (sym a.0) d.waiter.fits.alone))
     go n other (inr a) = a.1
 
 picked_waited : (s : Setting) (w : List Rank) (g : Registry) (r : ℕ) (x : Rank) (p : RankPart) (key : Key) (out : Outcome) (more : List Communicator) → Joined s w g → Deciding g r x p key
-    → (n : ℕ) → n < length (decide g key out) → is_none (get_or (decide g key out) n blank_creation).outcome ≡ true → Waited s (record { comms = more; creations = decide g key out; ranks = g.ranks }) n
+    → (n : ℕ) → n < length (decide g r key out) → is_none (get_or (decide g r key out) n blank_creation).outcome ≡ true → Waited s (record { comms = more; creations = decide g r key out; ranks = g.ranks }) n
 picked_waited s w g r x p key out more j d n lt open_row =
-    go (decided_rows g key d.waiter.place n out d.place d.waiter.fits.there)
+    go (decided_rows g r key d.waiter.place n out d.place d.waiter.fits.there)
   where
     inside : n < length g.creations
-    inside = let e = length-set g.creations (undecided_place g.creations key.members key.tag) (with_outcome (row_of g (undecided_place g.creations key.members key.tag)) out) in omega (arith, e, lt)
+    inside = let e = length-set g.creations (key_place g r key) (with_outcome (row_of g (key_place g r key)) out) in omega (arith, e, lt)
 
-    again : Waited s g n → Waited s (record { comms = more; creations = decide g key out; ranks = g.ranks }) n
+    again : Waited s g n → Waited s (record { comms = more; creations = decide g r key out; ranks = g.ranks }) n
     again v = record { rank = v.rank; thread = v.thread; rank_in = v.rank_in; thread_in = v.thread_in; waits = v.waits }
 
-    go : ((n ≡ d.waiter.place) × (get_or (decide g key out) n blank_creation ≡ with_outcome (row_of g d.waiter.place) out)) ⊎ ((n ≢ d.waiter.place) × (get_or (decide g key out) n blank_creation ≡ row_of g n)) → Waited s (record { comms = more; creations = decide g key out; ranks = g.ranks }) n
+    go : ((n ≡ d.waiter.place) × (get_or (decide g r key out) n blank_creation ≡ with_outcome (row_of g d.waiter.place) out)) ⊎ ((n ≢ d.waiter.place) × (get_or (decide g r key out) n blank_creation ≡ row_of g n)) → Waited s (record { comms = more; creations = decide g r key out; ranks = g.ranks }) n
     go (inl a) = absurd (let z : is_none (with_outcome (row_of g d.waiter.place) out).outcome ≡ true = rw a.1 at open_row in cc (z))
     go (inr a) = again (j.waited n inside (rw a.1 at open_row))
 
@@ -105,11 +112,11 @@ set_self (x ∷ xs) zero d = refl
 set_self (x ∷ xs) (suc i) d = ap (λ ys. x ∷ ys) (set_self xs i d)
 
 pub unmoved : (g : Registry) (r : ℕ) → Grows g g r
-unmoved g r = record { more_comms = omega arith; comms_stay = λ p lt. refl; more_rows = omega arith; rows_stay = λ n lt other. refl; uses_stay = λ q c ne. refl }
+unmoved g r = record { comms_stay = λ p lt. refl; more_rows = omega arith; rows_stay = λ n lt other. refl; stands_stay = λ q c p e. e; contexts_stay = λ q c ne. refl; counts_stay = λ q p ne. refl }
 
 -- the registry sees nothing of a step that keeps its rank fitting
 pub unseen : (s : Setting) (w : List Rank) (g : Registry) (r : ℕ) (y : Rank) → Joined s w g → r < s.ranks → RankFits s g r y (part_of g r) → Joined s (set w r y) g
-unseen s w g r y j lt f = joined_step s w g g r y (part_of g r) j lt (sym (set_self g.ranks r _)) (unmoved g r) f j.waited
+unseen s w g r y j lt f = joined_step s w g g r y (part_of g r) j lt (sym (set_self g.ranks r _)) (unmoved g r) f j.waited j.placed
 
 -- A settle
 
@@ -135,18 +142,27 @@ settle_goes s w g r key j lt first ready (Context c) e =
     let common = subst (λ (z : Setting). least_common z.contexts x.gathered key ≡ Some c) f.setting v.1 in
     let made : Communicator = record { ctx = c; members = key.members } in
     let more = g.comms ++ made ∷ [] in
-    let new : Registry = record { comms = more; creations = decide g key (Made (length g.comms)); ranks = g.ranks } in
-    let grows = picked_grows s g r x (part_of g r) key (Made (length g.comms)) more d (omega (arith, length-snoc g.comms made)) (λ i li. get_or-append g.comms made blank_comm i li) (λ i b ne. other_uses c i b d.members ne) in
-    let kept = decided_kept s g new r x (part_of g r) key d q v.0 (Made (length g.comms)) (ended.Context c) refl grows (omega (arith, length-snoc g.comms made), get_or-last g.comms made blank_comm) f (set x.mask c false) (x.comms ++ record { ctx = c; members = key.members; session = session_of x.threads key } ∷ []) (λ b. bits c b d.members f) in (
-      ((may_pick s g r x (part_of g r) key d, free_context s g r x (part_of g r) key c f d.members q v.0 common), tt),
-      joined_step s w g new r _ (part_of g r) j lt (sym (set_self g.ranks r _)) grows kept (picked_waited s w g r x (part_of g r) key (Made (length g.comms)) more j d),
+    let new : Registry = record { comms = more; creations = decide g r key (Made (length g.comms)); ranks = g.ranks } in
+    let free = free_context s g r x (part_of g r) key c f d.members q v.0 common in
+    let none = unused c d.members free in
+    let session = session_of x.threads key in
+    let grows = picked_grows s g r x (part_of g r) key (Made (length g.comms)) more d (λ i li. get_or-append g.comms made blank_comm i li) (λ i. stay_more g.comms made i) (made_elsewhere s g r x (part_of g r) key c session f d.members none) in
+    let kept = decided_kept s g new r x (part_of g r) key d q v.0 (Made (length g.comms)) (ended.Context c) refl grows (made_here s g r x (part_of g r) key c session f d.members none, get_or-last g.comms made blank_comm) f (set x.mask c false) (x.comms ++ record { ctx = c; members = key.members; session = session; creations = 0 } ∷ []) (λ b. bits c b d.members f)
+    (made_known s g r x (part_of g r) key c session f d.members none (decide g r key (Made (length g.comms))) (λ i. counts g r key (Made (length g.comms)) i r) (j.placed (length g.comms) r (omega arith))) (made_numbers s g r x (part_of g r) key c session f d.members none) in (
+      ((may_pick s g r x (part_of g r) key d, free), tt),
+      joined_step s w g new r _ (part_of g r) j lt (sym (set_self g.ranks r _)) grows kept (picked_waited s w g r x (part_of g r) key (Made (length g.comms)) more j d) (λ i z l. counts g r key (Made (length g.comms)) i z ∙ j.placed i z (let n = length-snoc g.comms made in omega (arith, n, l))),
     )
   where
-    other_uses : (c i b : ℕ) → key.members ≡ r ∷ [] → i ≢ r → in_use (g.comms ++ record { ctx = c; members = key.members } ∷ []) i b ≡ in_use g.comms i b
-    other_uses c i b members ne =
-        let a = in_use-append g.comms (record { ctx = c; members = key.members }) i b in
-        let o : has_rank key.members i ≡ false = rw members (grind (arith, nat_tests, ne)) in
-        grind (arith, a, o)
+    unused : (c : ℕ) → key.members ≡ r ∷ [] → IsFree s g key c → comm_of g.comms r c ≡ None
+    unused c members free =
+        let i = in_use_is g.comms r c in
+        let u = free.unused in
+        let z : list_any (λ m. in_use g.comms m c) (r ∷ []) ≡ false = subst (λ (ms : List ℕ). list_any (λ m. in_use g.comms m c) ms ≡ false) members u in
+        none_of (comm_of g.comms r c) (grind (arith, i, z))
+      where
+        none_of : (o : Option ℕ) → is_some o ≡ false → o ≡ None
+        none_of None h = refl
+        none_of (Some p) h = absurd (cc (h))
 
     bits : (c b : ℕ) → key.members ≡ r ∷ [] → RankFits s g r (rank_at w r) (part_of g r) → get_or (set (rank_at w r).mask c false) b false ≡ (nat_lt 0 b && (nat_le b s.contexts && not (in_use (g.comms ++ record { ctx = c; members = key.members } ∷ []) r b)))
     bits c b members f =
@@ -163,9 +179,9 @@ settle_goes s w g r key j lt first ready Exhausted e =
     let d = deciding s w g r key j lt (settling_undone x key q) in
     let v = verdict_pick x.setting.contexts x.gathered key (round_of x.rounds key) None e in
     let common = subst (λ (z : Setting). least_common z.contexts x.gathered key ≡ None) f.setting v.1 in
-    let new : Registry = record { comms = g.comms; creations = decide g key NoneFree; ranks = g.ranks } in
-    let grows = picked_grows s g r x (part_of g r) key NoneFree g.comms d (omega arith) (λ i li. refl) (λ i b ne. refl) in
-    let kept = decided_kept s g new r x (part_of g r) key d q v.0 NoneFree ended.Exhausted refl grows tt f x.mask x.comms f.mask in (
+    let new : Registry = record { comms = g.comms; creations = decide g r key NoneFree; ranks = g.ranks } in
+    let grows = picked_grows s g r x (part_of g r) key NoneFree g.comms d (λ i li. refl) (λ i z p h. h) (λ i b ne. refl) in
+    let kept = decided_kept s g new r x (part_of g r) key d q v.0 NoneFree ended.Exhausted refl grows tt f x.mask x.comms f.mask (λ b. CommFits-kept g new r b (λ i li. refl) (λ i. counts g r key NoneFree i r) (row_at x.comms b) (comm_of g.comms r b) refl (f.comms b)) (λ k n st. n) in (
       ((may_pick s g r x (part_of g r) key d, none_free s g r x (part_of g r) key f d.members q v.0 common), tt),
-      joined_step s w g new r _ (part_of g r) j lt (sym (set_self g.ranks r _)) grows kept (picked_waited s w g r x (part_of g r) key NoneFree g.comms j d),
+      joined_step s w g new r _ (part_of g r) j lt (sym (set_self g.ranks r _)) grows kept (picked_waited s w g r x (part_of g r) key NoneFree g.comms j d) (λ i z l. counts g r key NoneFree i z ∙ j.placed i z l),
     )

@@ -28,7 +28,7 @@ use Rattle.mpi_protocol.specs.declared.rows.Waits.TheVariants.{Nothing, Creation
 use Rattle.mpi_protocol.specs.declared.rows.ThreadRow.{ThreadRow}
 use Rattle.mpi_protocol.specs.Rank.{Rank, Offer, fresh, stage_of, round_of, thread_at, idle_thread, is_idle, set_stage, close_creation}
 use Rattle.mpi_protocol.specs.Agreement.{is_key, is_waiting, is_least, may_own, is_first, is_ready, all_own, least_common, picked, verdict_of}
-use Rattle.mpi_protocol.specs.Step.{key_from, step, is_enabled, is_due, is_done, is_answerable, called, joined, answered, if_done, if_waiting, offered, settled, ended as ends, is_open_here}
+use Rattle.mpi_protocol.specs.Step.{key_of, step, is_enabled, is_due, is_done, is_answerable, called, joined, answered, if_done, if_waiting, offered, settled, ended as ends, is_open_here}
 use Rattle.mpi_protocol.specs.World.{opening, blank, rank_at, moved}
 use Rattle.mpi_protocol.specs.Run.{RunsFrom, world_after, IsProtocolRun, end_of}
 use Rattle.mpi_protocol.specs.Order.{IsOfScript, IsOpenTo, IsDrained}
@@ -179,7 +179,7 @@ solo_call : (scripts : AllScripts) (x : Rank) (e : Effect) → SoloFits x → 0 
 solo_call scripts x (Says l r) solo lt idle less =
     (record { idle = idle_after x _ solo lt; owns = solo.owns }, call_falls scripts x (called x 0 (Says l r)).state Nothing idle less (set_first x.threads _ lt))
 solo_call scripts x (Joins l a) solo lt idle less =
-    (record { idle = idle_after x _ solo lt; owns = λ k. rw (stage_of-open x.opened (key_from a.group a.tag) Called k) (owned (stage_of x.opened k) (same_key (key_from a.group a.tag) k) (solo.owns k)) }, call_falls scripts x (joined x 0 l a) (Creates (key_from a.group a.tag) a.target a.session) idle less (set_first x.threads _ lt))
+    (record { idle = idle_after x _ solo lt; owns = λ k. rw (stage_of-open x.opened (key_of x a.origin) Called k) (owned (stage_of x.opened k) (same_key (key_of x a.origin) k) (solo.owns k)) }, call_falls scripts x (joined x 0 l a) (Creates (key_of x a.origin) a.target a.session) idle less (set_first x.threads _ lt))
   where
     owned : (o : Option Stage) (b : Bool) → owns_offer o ≡ true → owns_offer (or_else o (if b then Some Called else None)) ≡ true
     owned None true h = refl

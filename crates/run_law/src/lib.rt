@@ -2,7 +2,7 @@
 //! registry. Each law is the contract of a function that does nothing.
 #![tactic(auto)]
 
-ghost use Rattle.std.specs.Prelude.{◌≡◌, ◌<◌, ◌≤◌, ◌++◌, ◌∷◌, [], ℕ, Bool, List, length, true, None, Option};
+ghost use Rattle.std.specs.Prelude.{◌≡◌, ◌<◌, ◌≤◌, ◌++◌, ◌∷◌, [], ℕ, Bool, List, length, true, None, Option, is_some, All};
 ghost use Rattle.mpi_base.specs.declared.entries.Entry.{Entry};
 ghost use Rattle.mpi_base.specs.declared.keys.Key.{Key};
 ghost use Rattle.mpi_base.specs.declared.ops.Op.{Op};
@@ -12,10 +12,11 @@ ghost use Rattle.mpi_law.specs.ScriptLists.{AllScripts, next_op, script_of};
 ghost use Rattle.mpi_law.specs.Registry.{Registry, Event, Calls, Picks, Replies, Allowed, IsRegistryRun, LiveApart, registry_opening, registry_after, thread_of};
 ghost use Rattle.mpi_law.specs.Closed.{is_closed};
 ghost use Rattle.mpi_base.specs.declared.entries.Choice.{Choice};
-ghost use Rattle.mpi_protocol.specs.Rank.{thread_at, round_of};
+ghost use Rattle.mpi_protocol.specs.Rank.{stage_of, thread_at, round_of};
 ghost use Rattle.mpi_protocol.specs.World.{opening, rank_at, moved, may_happen, entry_at};
 ghost use Rattle.mpi_protocol.specs.Run.{IsProtocolRun, end_of, events_of, calls_of};
 ghost use Rattle.mpi_protocol.specs.Order.{IsQuiet, IsDrained, IsOpenTo, IsFirstChoice};
+ghost use Rattle.run_law.specs.Keys.{Stands};
 ghost use Rattle.run_law.specs.Solo.{IsSolo, steps_left};
 
 /// The events of every protocol run, for every list of choices, each enabled when it is made, are a
@@ -27,6 +28,14 @@ pub fn runs_are_registry_runs()
 /// At every moment of a registry run, two communicators that are live at one rank have different contexts.
 pub fn live_contexts_differ()
     ensures { (s : Setting) (events : List Event) → IsRegistryRun s (registry_opening s) events → LiveApart (registry_after s (registry_opening s) events) }
+{}
+
+/// At every moment of a protocol run, each key that is open at a rank stands there for a creation of the
+/// registry: it has its name and its members. The context of its parent, if it has one, stands for the one
+/// communicator with this context of which the rank is a member and which it has not given back.
+pub fn keys_stand_for_creations()
+    ensures { (s : Setting) (journal : List Entry) (r : ℕ) (key : Key) → IsProtocolRun s journal → r < s.ranks → is_some (stage_of (rank_at (end_of s journal) r).opened key) ≡ true
+        → Stands (registry_after s (registry_opening s) (events_of journal)) r key }
 {}
 
 /// Where a protocol run ends quiet, it leaves the registry closed.
@@ -62,6 +71,7 @@ pub fn counters_count_entries()
     ensures sessions { (s : Setting) (journal : List Entry) (r : ℕ) → (rank_at (end_of s journal) r).local.sessions ≤ length journal }
     ensures calls { (s : Setting) (journal : List Entry) (r t : ℕ) → (thread_at (rank_at (end_of s journal) r) t).calls ≤ length journal }
     ensures rounds { (s : Setting) (journal : List Entry) (r : ℕ) (key : Key) → round_of (rank_at (end_of s journal) r).rounds key ≤ length journal }
+    ensures creations { (s : Setting) (journal : List Entry) (r : ℕ) → All (λ m. m.creations ≤ length journal) (rank_at (end_of s journal) r).comms }
 {}
 
 /// A protocol run goes on by the entry of any choice that is enabled at its end.

@@ -3,9 +3,9 @@ use Rattle.std.proofs.Common.{◌≡◌, ℕ, Bool, true, false, cond, List, [],
 use Rattle.mpi_base.proofs.KeyFacts.{same_bytes}
 use Rattle.mpi_base.specs.Texts.{IsName, IsPsetName, IsTag}
 use Rattle.mpi_base.specs.declared.ops.Op.{Op}
-use Rattle.mpi_base.specs.declared.ops.Op.TheVariants.{Session, Pset, Create}
+use Rattle.mpi_base.specs.declared.ops.Op.TheVariants.{Session, Pset, Create, Dup}
 use Rattle.script_text.specs.Spelling.{quoted_text, tokens_of, IsOp}
-use Rattle.script_text.specs.Tokens.{◌>>=◌, text_if, is_name, is_pset_name, is_tag, is_quoted, middle_of, name_in, pset_name_in, tag_in, arrow_in, shown_at, session_at, pset_at, create_at, fields_at, op_at}
+use Rattle.script_text.specs.Tokens.{◌>>=◌, text_if, is_name, is_pset_name, is_tag, is_quoted, middle_of, name_in, pset_name_in, tag_in, arrow_in, shown_at, target_at, session_at, pset_at, create_at, dup_at, fields_at, op_at}
 use Rattle.script_text.proofs.Forms.{name_form, name_test, pset_name_form, pset_name_test, tag_form, tag_test, quoted_again, inside_again, quoted_found}
 
 -- where the second of two steps finds something, the first did
@@ -89,13 +89,21 @@ arrow_taken ts x h =
     let t = taken_found arrow_in ts x h in
     t.2 ∙ ap (λ (w : List ℕ). w ∷ x.1) (arrow_found t.0 x.0 t.1)
 
+-- the arrow and a name in front
+target_taken : (ts : List (List ℕ)) (x : List ℕ × List (List ℕ)) → target_at ts ≡ Some x → IsName x.0 × (ts ≡ codes "->" ∷ x.0 ∷ x.1)
+unfolding target_at
+target_taken ts x h =
+    let a = bound (shown_at arrow_in ts) (λ a. shown_at name_in a.1) x h in
+    let n = name_taken a.0.1 x a.2 in
+    (n.0, arrow_taken ts a.0 a.1 ∙ ap (λ (r : List (List ℕ)). codes "->" ∷ r) n.1)
+
 -- the tokens are those of the operation, with the rest behind them
 abbrev Tells : List (List ℕ) → Op × List (List ℕ) → Type 0
 Tells ts x = IsOp x.0 × (ts ≡ tokens_of x.0 ++ x.1)
 
--- four tokens in front
-chain : (ts a b c d : List (List ℕ)) (s p q g : List ℕ) → ts ≡ s ∷ a → a ≡ p ∷ b → b ≡ q ∷ c → c ≡ g ∷ d → ts ≡ s ∷ p ∷ q ∷ g ∷ d
-chain ts a b c d s p q g i j k l = cc
+-- two tokens in front of others
+chain : (ts a b more : List (List ℕ)) (s p : List ℕ) → ts ≡ s ∷ a → a ≡ p ∷ b → b ≡ more → ts ≡ s ∷ p ∷ more
+chain ts a b more s p i j k = cc
 
 -- what is found behind `session` are the fields of an operation
 session_found : (ts : List (List ℕ)) (x : Op × List (List ℕ)) → session_at ts ≡ Some x → Tells (codes "session" ∷ ts) x
@@ -112,14 +120,12 @@ unfolding pset_at
 pset_found ts x h =
     let s = bound (shown_at name_in ts) _ x h in
     let p = bound (shown_at pset_name_in s.0.1) _ x s.2 in
-    let a = bound (shown_at arrow_in p.0.1) _ x p.2 in
-    let g = bound (shown_at name_in a.0.1) _ x a.2 in
+    let g = bound (target_at p.0.1) _ x p.2 in
     let fs = name_taken _ s.0 s.1 in
     let fp = pset_name_taken _ p.0 p.1 in
-    let fa = arrow_taken _ a.0 a.1 in
-    let fg = name_taken _ g.0 g.1 in
+    let fg = target_taken _ g.0 g.1 in
     let q : (Pset s.0.0 p.0.0 g.0.0, g.0.1) ≡ x = cc in
-    let e = chain ts s.0.1 p.0.1 a.0.1 g.0.1 s.0.0 p.0.0 (codes "->") g.0.0 fs.1 fp.1 fa fg.1 in
+    let e = chain ts s.0.1 p.0.1 _ s.0.0 p.0.0 fs.1 fp.1 fg.1 in
     subst (Tells (codes "pset" ∷ ts)) q ((fs.0, fp.0, fg.0), ap (λ (r : List (List ℕ)). codes "pset" ∷ r) e)
 
 -- the same of `create`
@@ -128,15 +134,25 @@ unfolding create_at
 create_found ts x h =
     let s = bound (shown_at name_in ts) _ x h in
     let p = bound (shown_at tag_in s.0.1) _ x s.2 in
-    let a = bound (shown_at arrow_in p.0.1) _ x p.2 in
-    let g = bound (shown_at name_in a.0.1) _ x a.2 in
+    let g = bound (target_at p.0.1) _ x p.2 in
     let fs = name_taken _ s.0 s.1 in
     let fp = tag_taken _ p.0 p.1 in
-    let fa = arrow_taken _ a.0 a.1 in
-    let fg = name_taken _ g.0 g.1 in
+    let fg = target_taken _ g.0 g.1 in
     let q : (Create s.0.0 p.0.0 g.0.0, g.0.1) ≡ x = cc in
-    let e = chain ts s.0.1 p.0.1 a.0.1 g.0.1 s.0.0 (quoted_text p.0.0) (codes "->") g.0.0 fs.1 fp.1 fa fg.1 in
+    let e = chain ts s.0.1 p.0.1 _ s.0.0 (quoted_text p.0.0) fs.1 fp.1 fg.1 in
     subst (Tells (codes "create" ∷ ts)) q ((fs.0, fp.0, fg.0), ap (λ (r : List (List ℕ)). codes "create" ∷ r) e)
+
+-- the same of `dup`
+dup_found : (ts : List (List ℕ)) (x : Op × List (List ℕ)) → dup_at ts ≡ Some x → Tells (codes "dup" ∷ ts) x
+unfolding dup_at
+dup_found ts x h =
+    let c = bound (shown_at name_in ts) _ x h in
+    let d = bound (target_at c.0.1) _ x c.2 in
+    let fc = name_taken _ c.0 c.1 in
+    let fd = target_taken _ d.0 d.1 in
+    let q : (Dup c.0.0 d.0.0, d.0.1) ≡ x = cc in
+    let e = fc.1 ∙ ap (λ (r : List (List ℕ)). c.0.0 ∷ r) fd.1 in
+    subst (Tells (codes "dup" ∷ ts)) q ((fc.0, fd.0), ap (λ (r : List (List ℕ)). codes "dup" ∷ r) e)
 
 -- the word is that of the operation
 fields_found : (w : List ℕ) (ts : List (List ℕ)) (x : Op × List (List ℕ)) → fields_at w ts ≡ Some x → Tells (w ∷ ts) x
@@ -146,15 +162,19 @@ fields_found w ts x h = session (bytes_eq w (codes "session")) refl h
     word_is : (word : List ℕ) → bytes_eq w word ≡ true → Tells (word ∷ ts) x → Tells (w ∷ ts) x
     word_is word e t = subst (λ (v : List ℕ). Tells (v ∷ ts) x) (sym (same_bytes w word e)) t
 
-    create : (b : Bool) → bytes_eq w (codes "create") ≡ b → cond b (create_at ts) None ≡ Some x → Tells (w ∷ ts) x
-    create true e k = word_is (codes "create") e (create_found ts x k)
-    create false e k = absurd (cc)
+    dup : (b : Bool) → bytes_eq w (codes "dup") ≡ b → cond b (dup_at ts) None ≡ Some x → Tells (w ∷ ts) x
+    dup true e k = word_is (codes "dup") e (dup_found ts x k)
+    dup false e k = absurd (cc)
 
-    pset : (b : Bool) → bytes_eq w (codes "pset") ≡ b → cond b (pset_at ts) (cond (bytes_eq w (codes "create")) (create_at ts) None) ≡ Some x → Tells (w ∷ ts) x
+    create : (b : Bool) → bytes_eq w (codes "create") ≡ b → cond b (create_at ts) (cond (bytes_eq w (codes "dup")) (dup_at ts) None) ≡ Some x → Tells (w ∷ ts) x
+    create true e k = word_is (codes "create") e (create_found ts x k)
+    create false e k = dup (bytes_eq w (codes "dup")) refl k
+
+    pset : (b : Bool) → bytes_eq w (codes "pset") ≡ b → cond b (pset_at ts) (cond (bytes_eq w (codes "create")) (create_at ts) (cond (bytes_eq w (codes "dup")) (dup_at ts) None)) ≡ Some x → Tells (w ∷ ts) x
     pset true e k = word_is (codes "pset") e (pset_found ts x k)
     pset false e k = create (bytes_eq w (codes "create")) refl k
 
-    session : (b : Bool) → bytes_eq w (codes "session") ≡ b → cond b (session_at ts) (cond (bytes_eq w (codes "pset")) (pset_at ts) (cond (bytes_eq w (codes "create")) (create_at ts) None)) ≡ Some x → Tells (w ∷ ts) x
+    session : (b : Bool) → bytes_eq w (codes "session") ≡ b → cond b (session_at ts) (cond (bytes_eq w (codes "pset")) (pset_at ts) (cond (bytes_eq w (codes "create")) (create_at ts) (cond (bytes_eq w (codes "dup")) (dup_at ts) None))) ≡ Some x → Tells (w ∷ ts) x
     session true e k = word_is (codes "session") e (session_found ts x k)
     session false e k = pset (bytes_eq w (codes "pset")) refl k
 
@@ -184,11 +204,17 @@ arrow_again : (ts : List (List ℕ)) → shown_at arrow_in (codes "->" ∷ ts) �
 unfolding shown_at arrow_in
 arrow_again ts = refl
 
+-- the same of the arrow and a name
+target_again : (n : List ℕ) (ts : List (List ℕ)) → IsName n → target_at (codes "->" ∷ n ∷ ts) ≡ Some (n, ts)
+unfolding target_at
+target_again n ts h = rw (arrow_again (n ∷ ts)) (name_again n ts h)
+
 -- an operation's tokens are read again, whatever follows them
 pub op_again : (op : Op) (ts : List (List ℕ)) → IsOp op → op_at (tokens_of op ++ ts) ≡ Some (op, ts)
-unfolding op_at fields_at session_at pset_at create_at
+unfolding op_at fields_at session_at pset_at create_at dup_at
 op_again (Session n) ts h = rw (name_again n ts h) refl
 op_again (Pset s p g) ts h =
-    rw (name_again s (p ∷ codes "->" ∷ g ∷ ts) h.0, pset_name_again p (codes "->" ∷ g ∷ ts) h.1, arrow_again (g ∷ ts), name_again g ts h.2) refl
+    rw (name_again s (p ∷ codes "->" ∷ g ∷ ts) h.0, pset_name_again p (codes "->" ∷ g ∷ ts) h.1, target_again g ts h.2) refl
 op_again (Create g t c) ts h =
-    rw (name_again g (quoted_text t ∷ codes "->" ∷ c ∷ ts) h.0, tag_again t (codes "->" ∷ c ∷ ts) h.1, arrow_again (c ∷ ts), name_again c ts h.2) refl
+    rw (name_again g (quoted_text t ∷ codes "->" ∷ c ∷ ts) h.0, tag_again t (codes "->" ∷ c ∷ ts) h.1, target_again c ts h.2) refl
+op_again (Dup c d) ts h = rw (name_again c (codes "->" ∷ d ∷ ts) h.0, target_again d ts h.1) refl

@@ -3,7 +3,7 @@ use Rattle.std.specs.Prelude.{◌≡◌, ℕ, ◌-◌, ◌==◌, ◌&&◌, Bool,
 use Rattle.std.specs.List.{list_all, slice_split}
 use Rattle.mpi_base.specs.Texts.{begins_with_letter_lem, is_name_byte, is_pset_byte, is_tag_byte}
 use Rattle.mpi_base.specs.declared.ops.Op.{Op}
-use Rattle.mpi_base.specs.declared.ops.Op.TheVariants.{Session, Pset, Create}
+use Rattle.mpi_base.specs.declared.ops.Op.TheVariants.{Session, Pset, Create, Dup}
 
 -- the parts of a line round its spaces
 abbrev pub tokens_in : List ℕ → List (List ℕ)
@@ -82,6 +82,12 @@ shown_at shown ts = do
   x ← shown t.0
   Some (x, t.1)
 
+-- the name behind the arrow
+unfoldable pub target_at : List (List ℕ) → Found (List ℕ)
+target_at ts = do
+  a ← shown_at arrow_in ts
+  shown_at name_in a.1
+
 -- the fields of each operation
 unfoldable pub session_at : List (List ℕ) → Found Op
 session_at ts = do
@@ -92,17 +98,21 @@ unfoldable pub pset_at : List (List ℕ) → Found Op
 pset_at ts = do
   s ← shown_at name_in ts
   p ← shown_at pset_name_in s.1
-  a ← shown_at arrow_in p.1
-  g ← shown_at name_in a.1
+  g ← target_at p.1
   Some (Pset s.0 p.0 g.0, g.1)
 
 unfoldable pub create_at : List (List ℕ) → Found Op
 create_at ts = do
   g ← shown_at name_in ts
   t ← shown_at tag_in g.1
-  a ← shown_at arrow_in t.1
-  c ← shown_at name_in a.1
+  c ← target_at t.1
   Some (Create g.0 t.0 c.0, c.1)
+
+unfoldable pub dup_at : List (List ℕ) → Found Op
+dup_at ts = do
+  c ← shown_at name_in ts
+  d ← target_at c.1
+  Some (Dup c.0 d.0, d.1)
 
 -- the fields behind an operation's word
 unfoldable pub fields_at : List ℕ → List (List ℕ) → Found Op
@@ -110,6 +120,7 @@ fields_at word ts =
     if bytes_eq word (codes "session") then session_at ts
     else if bytes_eq word (codes "pset") then pset_at ts
     else if bytes_eq word (codes "create") then create_at ts
+    else if bytes_eq word (codes "dup") then dup_at ts
     else None
 
 -- an operation, and the tokens behind it

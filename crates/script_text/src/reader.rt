@@ -1,7 +1,7 @@
 //! Tokens of a line, and the fields of operations.
 ghost use Rattle.std.specs.Prelude.{◌≡◌, ◌==◌, ◌<◌, if◌then◌else◌, Some, None, IfSome, length, position, bytes_eq, codes};
 ghost use Rattle.std.specs.Option.{option_copied};
-ghost use Rattle.script_text.specs.Tokens.{MirrorsBy, token_at, shown_at, name_in, pset_name_in, arrow_in, session_at, pset_at, create_at, fields_at, op_at, tag_in, text_if, is_name, is_pset_name, is_tag, is_quoted, middle_of, tokens_in, are_none};
+ghost use Rattle.script_text.specs.Tokens.{MirrorsBy, token_at, shown_at, name_in, pset_name_in, arrow_in, target_at, session_at, pset_at, create_at, dup_at, fields_at, op_at, tag_in, text_if, is_name, is_pset_name, is_tag, is_quoted, middle_of, tokens_in, are_none};
 
 use mpi_base::{Name, Op, PsetName, StringTag};
 use std::marker::Model;
@@ -122,6 +122,15 @@ impl<'a> Reader<'a> {
         }
     }
 
+    /// The name behind the arrow.
+    #[tactic(auto, unfolding(crate::specs::Tokens::target_at))]
+    fn target(&mut self) -> Option<Name>
+        ensures { MirrorsBy (λ n. n) result self.new (target_at self.old) }
+    {
+        self.arrow()?;
+        self.name()
+    }
+
     #[tactic(auto, unfolding(crate::specs::Tokens::session_at))]
     fn session(&mut self) -> Option<Op>
         ensures { MirrorsBy (λ op. op) result self.new (session_at self.old) }
@@ -135,8 +144,7 @@ impl<'a> Reader<'a> {
     {
         let session = self.name()?;
         let set = self.pset_name()?;
-        self.arrow()?;
-        Some(Op::Pset(session, set, self.name()?))
+        Some(Op::Pset(session, set, self.target()?))
     }
 
     #[tactic(auto, unfolding(crate::specs::Tokens::create_at))]
@@ -145,8 +153,15 @@ impl<'a> Reader<'a> {
     {
         let group = self.name()?;
         let tag = self.tag()?;
-        self.arrow()?;
-        Some(Op::Create(group, tag, self.name()?))
+        Some(Op::Create(group, tag, self.target()?))
+    }
+
+    #[tactic(auto, unfolding(crate::specs::Tokens::dup_at))]
+    fn dup(&mut self) -> Option<Op>
+        ensures { MirrorsBy (λ op. op) result self.new (dup_at self.old) }
+    {
+        let comm = self.name()?;
+        Some(Op::Dup(comm, self.target()?))
     }
 
     #[tactic(auto, unfolding(crate::specs::Tokens::fields_at))]
@@ -157,6 +172,7 @@ impl<'a> Reader<'a> {
             b"session" => self.session(),
             b"pset" => self.pset(),
             b"create" => self.create(),
+            b"dup" => self.dup(),
             _ => None,
         }
     }

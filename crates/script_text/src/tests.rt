@@ -9,6 +9,7 @@ fn lines_are_read_and_written_again(rt: HostRuntime) {
         b"pset s mpi://SELF -> g".as_slice(),
         b"create g \"a\" -> c".as_slice(),
         b"create g \"\" -> c_2".as_slice(),
+        b"dup c -> d".as_slice(),
     ] {
         let op = read_line(line).expect(&rt, "a line of an operation");
         let mut out = Line::new();
@@ -29,7 +30,12 @@ fn other_lines_are_not_read(rt: HostRuntime) {
         b"session 2".as_slice(),
         b"pset s mpi://SELF g".as_slice(),
         b"create g a -> c".as_slice(),
-        b"dup c -> d".as_slice(),
+        b"dup c d".as_slice(),
+        b"dup -> d".as_slice(),
+        b"dup c -> ".as_slice(),
+        b"dup c  -> d".as_slice(),
+        b"dup c -> d e".as_slice(),
+        b"dup \"c\" -> d".as_slice(),
         b"".as_slice(),
     ] {
         assert!(rt; read_line(line).is_none());
@@ -43,6 +49,10 @@ fn fields_stand_in_written_order(rt: HostRuntime) {
     let target = Name::new(b"g").expect(&rt, "a name");
     let op = read_line(b"pset s mpi://WORLD -> g");
     assert!(rt; op == Some(Op::Pset(session, set, target)));
+    let comm = Name::new(b"c").expect(&rt, "a name");
+    let target = Name::new(b"d").expect(&rt, "a name");
+    let op = read_line(b"dup c -> d");
+    assert!(rt; op == Some(Op::Dup(comm, target)));
 }
 
 #[test]

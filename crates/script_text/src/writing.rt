@@ -66,5 +66,10 @@ pub fn write_op(op: &Op, out: &mut Line)
             put_quoted(out, tag);
             put_target(out, target);
         }
+        Op::Dup(comm, target) => {
+            put(out, b"dup ");
+            put(out, comm.bytes());
+            put_target(out, target);
+        }
     }
 }

@@ -17,6 +17,9 @@ make-requires-clause-calls c = (few_steps _ _ _ _ c.requires c.loop-act.invarian
 pub make-requires-clause-rounds : goal.make-requires-clause-rounds
 make-requires-clause-rounds c = (few_steps _ _ _ _ c.requires c.loop-act.invariant c.reserve.ensures.same).rounds
 
+pub make-requires-clause-creations : goal.make-requires-clause-creations
+make-requires-clause-creations c = (few_steps _ _ _ _ c.requires c.loop-act.invariant c.reserve.ensures.same).creations
+
 made : (c : goal.After-push) → Steps c.loop-act.state.state c.in-Some.act c.make.new.state.state c.make.result
 made c = subst (λ (x : Rank). Steps x c.in-Some.act c.make.new.state.state c.make.result) c.reserve.ensures.same c.make.ensures
 
