@@ -4,7 +4,7 @@ use Rattle.mpi_base.specs.Classes.{text_of_lem}
 use Rattle.mpi_base.specs.declared.errors.ErrClass.{ErrClass}
 use Rattle.mpi_base.specs.declared.errors.ErrClass.TheVariants as class
 use Rattle.mpi_base.specs.declared.entries.Act.{Act}
-use Rattle.mpi_base.specs.declared.entries.Act.TheVariants.{Call, Answer, Offer, Settle}
+use Rattle.mpi_base.specs.declared.entries.Act.TheVariants.{Call, Answer, Offer, Settle, Leave, Back}
 use Rattle.mpi_base.specs.declared.entries.Said.{Said}
 use Rattle.mpi_base.specs.declared.entries.Said.TheVariants.{Own, Zero, Ready, Retry, Picked, Exhausted, Shared}
 use Rattle.mpi_base.specs.declared.ops.Reply.{Reply}
@@ -13,7 +13,7 @@ use Rattle.mpi_base.specs.declared.entries.Entry.{Entry}
 use Rattle.script_text.specs.Spelling.{tokens_of}
 use Rattle.script_text.specs.Tokens.{Found, ◌>>=◌, token_at, op_at}
 use Rattle.script_text.proofs.Spelled.{op_again}
-use Rattle.history_text.specs.Text.{labelled_text, act_tokens, said_part, reply_part, entry_tokens, IsAct, IsSaid, IsReply, IsEntry}
+use Rattle.history_text.specs.Text.{labelled_text, act_tokens, said_part, dropped_part, reply_part, entry_tokens, IsAct, IsSaid, IsDropped, IsReply, IsEntry}
 use Rattle.history_text.proofs.Again.{number_at, number_again, labelled_at, labelled_again, list_at, list_again, key_at, key_again}
 
 -- the class with this text
@@ -47,7 +47,9 @@ act_behind : List ℕ → List (List ℕ) → Found Act
 act_behind word ts =
     cond (bytes_eq word (codes "call")) (number_at ts >>= λ t. op_at t.1 >>= λ op. Some (Call t.0 op.0, op.1))
     (cond (bytes_eq word (codes "answer")) (number_at ts >>= λ t. Some (Answer t.0, t.1))
-    (cond (bytes_eq word (codes "offer")) (key_at ts >>= λ k. Some (Offer k.0, k.1)) (key_at ts >>= λ k. Some (Settle k.0, k.1))))
+    (cond (bytes_eq word (codes "offer")) (key_at ts >>= λ k. Some (Offer k.0, k.1))
+    (cond (bytes_eq word (codes "settle")) (key_at ts >>= λ k. Some (Settle k.0, k.1))
+    (cond (bytes_eq word (codes "leave")) (number_at ts >>= λ c. Some (Leave c.0, c.1)) (number_at ts >>= λ c. Some (Back c.0, c.1))))))
 
 -- a step in front
 act_at : List (List ℕ) → Found Act
@@ -60,37 +62,53 @@ act_again (Call t op) ts h = let l = h.0 in rw (number_again t (tokens_of op ++ 
 act_again (Answer t) ts h = rw (number_again t ts (omega (arith, h))) refl
 act_again (Offer k) ts h = rw (key_again k ts h) refl
 act_again (Settle k) ts h = rw (key_again k ts h) refl
+act_again (Leave c) ts h = rw (number_again c ts (omega (arith, h))) refl
+act_again (Back c) ts h = rw (number_again c ts (omega (arith, h))) refl
 
 -- what stands behind `pick`
 picked_at : List (List ℕ) → Found (Option Said)
 picked_at [] = None
 picked_at (t ∷ ts) = cond (bytes_eq t (codes "exhausted")) (Some (Some Exhausted, ts)) (labelled_at (codes "ctx=") (t ∷ ts) >>= λ c. Some (Some (Picked c.0), c.1))
 
--- what was said, by its word
+-- what was said, by its word; before a count of messages nothing was
 said_behind : List ℕ → List (List ℕ) → Found (Option Said)
 said_behind word ts =
-    cond (bytes_eq word (codes "own")) (Some (Some Own, ts))
+    cond (bytes_eq word (codes "drop")) (Some (None, codes "#" ∷ codes "drop" ∷ ts))
+    (cond (bytes_eq word (codes "own")) (Some (Some Own, ts))
     (cond (bytes_eq word (codes "zero")) (Some (Some Zero, ts))
     (cond (bytes_eq word (codes "ready")) (Some (Some Ready, ts))
-    (cond (bytes_eq word (codes "retry")) (Some (Some Retry, ts)) (cond (bytes_eq word (codes "shared")) (Some (Some Shared, ts)) (picked_at ts)))))
+    (cond (bytes_eq word (codes "retry")) (Some (Some Retry, ts)) (cond (bytes_eq word (codes "shared")) (Some (Some Shared, ts)) (picked_at ts))))))
 
 -- what was said, where a `#` is in front
 said_at : List (List ℕ) → Found (Option Said)
 said_at [] = Some (None, [])
 said_at (t ∷ ts) = cond (bytes_eq t (codes "#")) (token_at ts >>= λ w. said_behind w.0 w.1) (Some (None, t ∷ ts))
 
--- what was said is read again, before a reply or nothing
-said_again : (s : Option Said) (r : Option Reply) → IsSaid s → said_at (said_part s ++ reply_part r) ≡ Some (s, reply_part r)
+-- what was said is read again, before a count, a reply or nothing
+said_again : (s : Option Said) (d : Option ℕ) (r : Option Reply) → IsSaid s → said_at (said_part s ++ (dropped_part d ++ reply_part r)) ≡ Some (s, dropped_part d ++ reply_part r)
 unfolding said_at said_behind picked_at
-said_again None None h = refl
-said_again None (Some r) h = refl
-said_again (Some Own) r h = refl
-said_again (Some Zero) r h = refl
-said_again (Some Ready) r h = refl
-said_again (Some Retry) r h = refl
-said_again (Some (Picked c)) r h = rw (labelled_again (codes "ctx=") c (reply_part r) (omega (arith, h))) refl
-said_again (Some Exhausted) r h = refl
-said_again (Some Shared) r h = refl
+said_again None None None h = refl
+said_again None None (Some r) h = refl
+said_again None (Some n) r h = refl
+said_again (Some Own) d r h = refl
+said_again (Some Zero) d r h = refl
+said_again (Some Ready) d r h = refl
+said_again (Some Retry) d r h = refl
+said_again (Some (Picked c)) d r h = rw (labelled_again (codes "ctx=") c (dropped_part d ++ reply_part r) (omega (arith, h))) refl
+said_again (Some Exhausted) d r h = refl
+said_again (Some Shared) d r h = refl
+
+-- how many messages were dropped, where a `#` is in front
+dropped_at : List (List ℕ) → Found (Option ℕ)
+dropped_at [] = Some (None, [])
+dropped_at (t ∷ ts) = cond (bytes_eq t (codes "#")) (token_at ts >>= λ w. number_at w.1 >>= λ n. Some (Some n.0, n.1)) (Some (None, t ∷ ts))
+
+-- a count of messages is read again, before a reply or nothing
+dropped_again : (d : Option ℕ) (r : Option Reply) → IsDropped d → dropped_at (dropped_part d ++ reply_part r) ≡ Some (d, reply_part r)
+unfolding dropped_at
+dropped_again None None h = refl
+dropped_again None (Some r) h = refl
+dropped_again (Some n) r h = rw (number_again n (reply_part r) h) refl
 
 -- what stands behind `comm`
 comm_at : List (List ℕ) → Found Reply
@@ -126,7 +144,8 @@ reply_again (Some (Comm c r s)) h =
 -- an entry of these tokens
 entry_in : List (List ℕ) → Option Entry
 entry_in ts =
-    number_at ts >>= λ k. act_at k.1 >>= λ a. said_at a.1 >>= λ s. reply_at s.1 >>= λ r. Some (record { choice = record { rank = k.0; act = a.0 }; said = s.0; reply = r })
+    number_at ts >>= λ k. act_at k.1 >>= λ a. said_at a.1 >>= λ s. dropped_at s.1 >>= λ d. reply_at d.1 >>= λ r.
+    Some (record { choice = record { rank = k.0; act = a.0 }; said = s.0; dropped = d.0; reply = r })
 
 -- an entry is read again from its tokens
 entry_again : (e : Entry) → IsEntry e → entry_in (entry_tokens e) ≡ Some e
@@ -134,9 +153,10 @@ unfolding entry_in
 entry_again e h =
     let k = h.rank in
     rw (
-      number_again e.choice.rank (act_tokens e.choice.act ++ (said_part e.said ++ reply_part e.reply)) (omega (arith, k)),
-      act_again e.choice.act (said_part e.said ++ reply_part e.reply) h.act,
-      said_again e.said e.reply h.said,
+      number_again e.choice.rank (act_tokens e.choice.act ++ (said_part e.said ++ (dropped_part e.dropped ++ reply_part e.reply))) (omega (arith, k)),
+      act_again e.choice.act (said_part e.said ++ (dropped_part e.dropped ++ reply_part e.reply)) h.act,
+      said_again e.said e.dropped e.reply h.said,
+      dropped_again e.dropped e.reply h.dropped,
       reply_again e.reply h.reply,
     ) refl
 

@@ -1,22 +1,27 @@
 -- Entries and their texts, as examples.
 use Rattle.std.proofs.Common.{◌≡◌, ℕ, List, [], ◌∷◌, Option, Some, None, codes, decimal, refl, arith}
-use Rattle.std.proofs.lemmas.Fmt.{decimal_digit}
+use Rattle.std.proofs.lemmas.Fmt.{decimal_digit, decimal-digits_value}
 use Rattle.mpi_base.specs.declared.errors.ErrClass.TheVariants as class
 use Rattle.mpi_base.specs.declared.keys.Kind.TheVariants as kind
 use Rattle.mpi_base.specs.declared.keys.Key.{Key}
-use Rattle.mpi_base.specs.declared.ops.Op.TheVariants.{Session, Pset, Create, Dup}
+use Rattle.mpi_base.specs.declared.ops.Op.TheVariants.{Session, Pset, Create, Dup, Free}
 use Rattle.mpi_base.specs.declared.ops.Reply.{Reply}
 use Rattle.mpi_base.specs.declared.ops.Reply.TheVariants.{Fine, Refused, Group, Comm}
 use Rattle.mpi_base.specs.declared.entries.Act.{Act}
-use Rattle.mpi_base.specs.declared.entries.Act.TheVariants.{Call, Answer, Offer, Settle}
+use Rattle.mpi_base.specs.declared.entries.Act.TheVariants.{Call, Answer, Offer, Settle, Leave, Back}
 use Rattle.mpi_base.specs.declared.entries.Said.{Said}
 use Rattle.mpi_base.specs.declared.entries.Said.TheVariants.{Own, Zero, Ready, Picked, Exhausted}
 use Rattle.mpi_base.specs.declared.entries.Entry.{Entry}
 use Rattle.history_text.specs.Text.{entry_text}
+use Rattle.history_text.proofs.Again.{own}
 
--- an entry of its parts
+-- an entry of its parts, where nothing is dropped
 abbrev entry : ℕ → Act → Option Said → Option Reply → Entry
-entry rank act said reply = record { choice = record { rank = rank; act = act }; said = said; reply = reply }
+entry rank act said reply = record { choice = record { rank = rank; act = act }; said = said; dropped = None; reply = reply }
+
+-- the entry of a give-back
+abbrev back : ℕ → ℕ → ℕ → Entry
+back rank ctx count = record { choice = record { rank = rank; act = Back ctx }; said = None; dropped = Some count; reply = None }
 
 -- the key of a communicator from a group
 abbrev from : List ℕ → List ℕ → Key
@@ -35,6 +40,12 @@ one_digit = decimal_digit 1 (omega arith)
 
 three_digit : decimal 3 ≡ codes "3"
 three_digit = decimal_digit 3 (omega arith)
+
+sixty_three : decimal 63 ≡ codes "63"
+sixty_three = decimal-digits_value own (codes "63") refl (omega arith) (λ e. absurd (omega (arith, e))) (omega arith)
+
+most_dropped : decimal 18446744073709551615 ≡ codes "18446744073709551615"
+most_dropped = decimal-digits_value own (codes "18446744073709551615") refl (omega arith) (λ e. absurd (omega (arith, e))) (omega arith)
 
 -- each line below is the text of its entry
 session_line : entry_text (entry 0 (Call 0 (Session (codes "s"))) None (Some Fine)) ≡ codes "0 call 0 session s => ok"
@@ -72,3 +83,18 @@ refused_line = rw zero_digit refl
 
 zero_line : entry_text (entry 3 (Offer (from [] (3 ∷ []))) (Some Zero) None) ≡ codes "3 offer from \"\" [3] # zero"
 zero_line = rw three_digit refl
+
+free_line : entry_text (entry 0 (Call 0 (Free (codes "c"))) None None) ≡ codes "0 call 0 free c"
+free_line = rw zero_digit refl
+
+leave_line : entry_text (entry 0 (Leave 1) None None) ≡ codes "0 leave 1"
+leave_line = rw (zero_digit, one_digit) refl
+
+back_line : entry_text (back 0 1 0) ≡ codes "0 back 1 # drop 0"
+back_line = rw (zero_digit, one_digit) refl
+
+freed_line : entry_text (entry 0 (Answer 0) None (Some Fine)) ≡ codes "0 answer 0 => ok"
+freed_line = rw zero_digit refl
+
+most_dropped_line : entry_text (back 3 63 18446744073709551615) ≡ codes "3 back 63 # drop 18446744073709551615"
+most_dropped_line = rw (three_digit, sixty_three, most_dropped) refl

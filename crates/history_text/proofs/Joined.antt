@@ -4,11 +4,11 @@ use Rattle.std.proofs.lemmas.Bool.Decides.{nat_tests}
 use Rattle.std.proofs.lemmas.Option.{get_or_from_slice_get}
 use Rattle.std.specs.List.{join_with_byte}
 use Rattle.mpi_base.specs.declared.ops.Op.{Op}
-use Rattle.mpi_base.specs.declared.ops.Op.TheVariants.{Session, Pset, Create, Dup}
+use Rattle.mpi_base.specs.declared.ops.Op.TheVariants.{Session, Pset, Create, Dup, Free}
 use Rattle.mpi_base.specs.declared.entries.Said.TheVariants.{Exhausted}
 use Rattle.mpi_base.specs.declared.entries.Entry.{Entry}
 use Rattle.script_text.specs.Spelling.{in_line, quoted_text, tokens_of, line_of}
-use Rattle.history_text.specs.Text.{act_tokens, said_tokens, said_part, reply_part, entry_text}
+use Rattle.history_text.specs.Text.{act_tokens, said_tokens, said_part, dropped_part, reply_part, entry_text}
 use Rattle.history_text.specs.Parts.{Adds, spaced_text, item_text}
 
 -- the first token, and the others behind spaces
@@ -26,6 +26,7 @@ op_spaced (Session n) = ap (λ (r : List ℕ). 32 ∷ r) (sym (line_from (codes 
 op_spaced (Pset s p g) = ap (λ (r : List ℕ). 32 ∷ r) (sym (line_from (codes "pset") (s ∷ p ∷ codes "->" ∷ g ∷ [])))
 op_spaced (Create g t c) = ap (λ (r : List ℕ). 32 ∷ r) (sym (line_from (codes "create") (g ∷ quoted_text t ∷ codes "->" ∷ c ∷ [])))
 op_spaced (Dup c d) = ap (λ (r : List ℕ). 32 ∷ r) (sym (line_from (codes "dup") (c ∷ codes "->" ∷ d ∷ [])))
+op_spaced (Free c) = ap (λ (r : List ℕ). 32 ∷ r) (sym (line_from (codes "free") (c ∷ [])))
 
 -- spaces before the tokens of two lists
 spaced-append : (xs ys : List (List ℕ)) → spaced_text (xs ++ ys) ≡ spaced_text xs ++ spaced_text ys
@@ -33,10 +34,14 @@ spaced-append [] ys = refl
 spaced-append (x ∷ xs) ys = rw (spaced-append xs ys) (ap (λ (r : List ℕ). 32 ∷ r) (sym (append_assoc x (spaced_text xs) (spaced_text ys))))
 
 -- an entry's text by its parts
-pub text_parts : (e : Entry) → entry_text e ≡ decimal e.choice.rank ++ (spaced_text (act_tokens e.choice.act) ++ (spaced_text (said_part e.said) ++ spaced_text (reply_part e.reply)))
+pub text_parts : (e : Entry) → entry_text e ≡ decimal e.choice.rank ++ (spaced_text (act_tokens e.choice.act) ++ (spaced_text (said_part e.said) ++ (spaced_text (dropped_part e.dropped) ++ spaced_text (reply_part e.reply))))
 text_parts e =
-    line_from (decimal e.choice.rank) (act_tokens e.choice.act ++ (said_part e.said ++ reply_part e.reply))
-    ∙ (rw (spaced-append (act_tokens e.choice.act) (said_part e.said ++ reply_part e.reply), spaced-append (said_part e.said) (reply_part e.reply)) refl)
+    line_from (decimal e.choice.rank) (act_tokens e.choice.act ++ (said_part e.said ++ (dropped_part e.dropped ++ reply_part e.reply)))
+    ∙ (rw (
+      spaced-append (act_tokens e.choice.act) (said_part e.said ++ (dropped_part e.dropped ++ reply_part e.reply)),
+      spaced-append (said_part e.said) (dropped_part e.dropped ++ reply_part e.reply),
+      spaced-append (dropped_part e.dropped) (reply_part e.reply),
+    ) refl)
 
 -- a comma stands before all ranks but the first
 item_later : (k r : ℕ) → item_text (suc k) r ≡ 44 ∷ decimal r
@@ -74,7 +79,7 @@ exhausted_added old middle new p q = record {
   short = rw (q, p) (omega (arith, length-append (old ++ codes " pick") (codes " exhausted"), length-append old (codes " pick")));
 }
 
--- four parts added in turn
-pub parts_added : (a b c d first second third fourth : List ℕ) → first ≡ a → second ≡ first ++ b → third ≡ second ++ c → fourth ≡ third ++ d → fourth ≡ a ++ (b ++ (c ++ d))
-parts_added a b c d first second third fourth p q r s =
-    rw (s, r, q, p) (append_assoc (a ++ b) c d ∙ append_assoc a b (c ++ d))
+-- five parts added in turn
+pub parts_added : (a b c d e first second third fourth fifth : List ℕ) → first ≡ a → second ≡ first ++ b → third ≡ second ++ c → fourth ≡ third ++ d → fifth ≡ fourth ++ e → fifth ≡ a ++ (b ++ (c ++ (d ++ e)))
+parts_added a b c d e first second third fourth fifth p q r s t =
+    rw (t, s, r, q, p) (append_assoc ((a ++ b) ++ c) d e ∙ (append_assoc (a ++ b) c (d ++ e) ∙ append_assoc a b (c ++ (d ++ e))))

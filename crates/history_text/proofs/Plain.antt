@@ -13,7 +13,7 @@ use Rattle.mpi_base.specs.declared.keys.Kind.{Kind}
 use Rattle.mpi_base.specs.declared.keys.Kind.TheVariants as kind
 use Rattle.mpi_base.specs.declared.keys.Key.{Key}
 use Rattle.mpi_base.specs.declared.entries.Act.{Act}
-use Rattle.mpi_base.specs.declared.entries.Act.TheVariants.{Call, Answer, Offer, Settle}
+use Rattle.mpi_base.specs.declared.entries.Act.TheVariants.{Call, Answer, Offer, Settle, Leave, Back}
 use Rattle.mpi_base.specs.declared.entries.Said.{Said}
 use Rattle.mpi_base.specs.declared.entries.Said.TheVariants.{Own, Zero, Ready, Retry, Picked, Exhausted, Shared}
 use Rattle.mpi_base.specs.declared.ops.Reply.{Reply}
@@ -23,7 +23,7 @@ use Rattle.script_text.specs.Spelling.{has_line_feed}
 use Rattle.script_text.specs.Tokens.{tokens_in}
 use Rattle.script_text.proofs.Cuts.{IsPlain, tokens_again, line_is_one}
 use Rattle.script_text.proofs.Laws.{plain_quoted, plain_tokens}
-use Rattle.history_text.specs.Text.{list_text, labelled_text, parent_tokens, kind_tokens, key_tokens, act_tokens, said_part, reply_part, entry_tokens, entry_text, IsKey, IsAct, IsSaid, IsReply, IsEntry}
+use Rattle.history_text.specs.Text.{list_text, labelled_text, parent_tokens, kind_tokens, key_tokens, act_tokens, said_part, dropped_part, reply_part, entry_tokens, entry_text, IsKey, IsAct, IsSaid, IsDropped, IsReply, IsEntry}
 use Rattle.history_text.proofs.Again.{own}
 use Rattle.history_text.proofs.Entries.{one_entry}
 
@@ -78,6 +78,8 @@ plain_act (Call t op) h = let l = h.0 in (refl, (plain_decimal t (omega (arith, 
 plain_act (Answer t) h = (refl, (plain_decimal t (omega (arith, h)), tt))
 plain_act (Offer k) h = (refl, plain_key k h)
 plain_act (Settle k) h = (refl, plain_key k h)
+plain_act (Leave c) h = (refl, (plain_decimal c (omega (arith, h)), tt))
+plain_act (Back c) h = (refl, (plain_decimal c (omega (arith, h)), tt))
 
 -- and of what was said
 plain_said : (s : Option Said) → IsSaid s → AllByRecursion IsPlain (said_part s)
@@ -89,6 +91,11 @@ plain_said (Some Retry) h = (refl, (refl, tt))
 plain_said (Some (Picked c)) h = (refl, (refl, (plain_labelled (codes "ctx=") c refl h, tt)))
 plain_said (Some Exhausted) h = (refl, (refl, (refl, tt)))
 plain_said (Some Shared) h = (refl, (refl, tt))
+
+-- and of what was dropped
+plain_dropped : (d : Option ℕ) → IsDropped d → AllByRecursion IsPlain (dropped_part d)
+plain_dropped None h = tt
+plain_dropped (Some n) h = (refl, (refl, (plain_decimal n h, tt)))
 
 -- and the text of a class
 plain_class : (c : ErrClass) → IsPlain (text_of_lem c)
@@ -122,11 +129,13 @@ both (x ∷ xs) ys h k = (h.0, both xs ys h.1 k)
 plain_entry : (e : Entry) → IsEntry e → AllByRecursion IsPlain (entry_tokens e)
 plain_entry e h =
     let k = h.rank in
-    (plain_decimal e.choice.rank (omega (arith, k)), both (act_tokens e.choice.act) _ (plain_act e.choice.act h.act) (both (said_part e.said) _ (plain_said e.said h.said) (plain_reply e.reply h.reply)))
+    let replied = both (dropped_part e.dropped) _ (plain_dropped e.dropped h.dropped) (plain_reply e.reply h.reply) in
+    let said = both (said_part e.said) _ (plain_said e.said h.said) replied in
+    (plain_decimal e.choice.rank (omega (arith, k)), both (act_tokens e.choice.act) _ (plain_act e.choice.act h.act) said)
 
 -- the tokens of an entry are read again from its text
 text_again : (e : Entry) → IsEntry e → tokens_in (entry_text e) ≡ entry_tokens e
-text_again e h = let p = plain_entry e h in tokens_again (decimal e.choice.rank) (act_tokens e.choice.act ++ (said_part e.said ++ reply_part e.reply)) p.0 p.1
+text_again e h = let p = plain_entry e h in tokens_again (decimal e.choice.rank) (act_tokens e.choice.act ++ (said_part e.said ++ (dropped_part e.dropped ++ reply_part e.reply))) p.0 p.1
 
 -- two entries with one text are one
 pub one_text : (a b : Entry) → IsEntry a → IsEntry b → entry_text a ≡ entry_text b → a ≡ b

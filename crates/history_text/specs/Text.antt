@@ -9,7 +9,7 @@ use Rattle.mpi_base.specs.declared.keys.Kind.{Kind}
 use Rattle.mpi_base.specs.declared.keys.Kind.TheVariants as kind
 use Rattle.mpi_base.specs.declared.keys.Key.{Key}
 use Rattle.mpi_base.specs.declared.entries.Act.{Act}
-use Rattle.mpi_base.specs.declared.entries.Act.TheVariants.{Call, Answer, Offer, Settle}
+use Rattle.mpi_base.specs.declared.entries.Act.TheVariants.{Call, Answer, Offer, Settle, Leave, Back}
 use Rattle.mpi_base.specs.declared.entries.Said.{Said}
 use Rattle.mpi_base.specs.declared.entries.Said.TheVariants.{Own, Zero, Ready, Retry, Picked, Exhausted, Shared}
 use Rattle.mpi_base.specs.declared.ops.Reply.{Reply}
@@ -43,6 +43,8 @@ act_tokens (Call thread op) = codes "call" ∷ decimal thread ∷ tokens_of op
 act_tokens (Answer thread) = codes "answer" ∷ decimal thread ∷ []
 act_tokens (Offer k) = codes "offer" ∷ key_tokens k
 act_tokens (Settle k) = codes "settle" ∷ key_tokens k
+act_tokens (Leave c) = codes "leave" ∷ decimal c ∷ []
+act_tokens (Back c) = codes "back" ∷ decimal c ∷ []
 
 -- a number behind a label
 abbrev pub labelled_text : List ℕ → ℕ → List ℕ
@@ -63,6 +65,11 @@ abbrev pub said_part : Option Said → List (List ℕ)
 said_part None = []
 said_part (Some s) = codes "#" ∷ said_tokens s
 
+-- how many messages were dropped, behind a mark, and nothing where no count is there
+abbrev pub dropped_part : Option ℕ → List (List ℕ)
+dropped_part None = []
+dropped_part (Some n) = codes "#" ∷ codes "drop" ∷ decimal n ∷ []
+
 -- the tokens of a reply
 abbrev pub reply_tokens : Reply → List (List ℕ)
 reply_tokens Fine = codes "ok" ∷ []
@@ -76,9 +83,9 @@ abbrev pub reply_part : Option Reply → List (List ℕ)
 reply_part None = []
 reply_part (Some r) = codes "=>" ∷ reply_tokens r
 
--- the tokens of an entry: the rank, the step, what was said and the reply
+-- the tokens of an entry: the rank, the step, what was said, what was dropped and the reply
 abbrev pub entry_tokens : Entry → List (List ℕ)
-entry_tokens e = decimal e.choice.rank ∷ (act_tokens e.choice.act ++ (said_part e.said ++ reply_part e.reply))
+entry_tokens e = decimal e.choice.rank ∷ (act_tokens e.choice.act ++ (said_part e.said ++ (dropped_part e.dropped ++ reply_part e.reply)))
 
 -- the line of an entry, without its line feed
 abbrev pub entry_text : Entry → List ℕ
@@ -110,11 +117,18 @@ IsAct (Call thread op) = (thread < 2 ^ 8) × IsOp op
 IsAct (Answer thread) = thread < 2 ^ 8
 IsAct (Offer k) = IsKey k
 IsAct (Settle k) = IsKey k
+IsAct (Leave c) = c < 2 ^ 16
+IsAct (Back c) = c < 2 ^ 16
 
 -- a context in its range
 abbrev pub IsSaid : Option Said → Type 0
 IsSaid (Some (Picked c)) = c < 2 ^ 16
 IsSaid _ = Unit {0}
+
+-- a count of messages in its range
+abbrev pub IsDropped : Option ℕ → Type 0
+IsDropped (Some n) = n < 2 ^ 64
+IsDropped None = Unit {0}
 
 -- a reply whose numbers and members are in their ranges
 abbrev pub IsReply : Option Reply → Type 0
@@ -142,6 +156,17 @@ may_say (Offer k) None = false
 may_say (Offer k) (Some s) = offer_may_say s
 may_say (Settle k) None = false
 may_say (Settle k) (Some s) = settle_may_say s
+may_say (Leave c) said = is_none said
+may_say (Back c) said = is_none said
+
+-- whether a step drops this: a give-back tells how many messages it drops, and no other step does
+abbrev pub may_drop : Act → Option ℕ → Bool
+may_drop (Call thread op) dropped = is_none dropped
+may_drop (Answer thread) dropped = is_none dropped
+may_drop (Offer k) dropped = is_none dropped
+may_drop (Settle k) dropped = is_none dropped
+may_drop (Leave c) dropped = is_none dropped
+may_drop (Back c) dropped = is_some dropped
 
 -- whether a step is replied so: an answer is, a call may be, and no other step is
 abbrev pub may_reply : Act → Option Reply → Bool
@@ -149,12 +174,16 @@ may_reply (Call thread op) reply = true
 may_reply (Answer thread) reply = is_some reply
 may_reply (Offer k) reply = is_none reply
 may_reply (Settle k) reply = is_none reply
+may_reply (Leave c) reply = is_none reply
+may_reply (Back c) reply = is_none reply
 
 -- an entry whose numbers, texts and lists are in their ranges, and whose parts belong together
 pub record IsEntry (e : Entry) : Type 0 where
   pub rank : e.choice.rank < 2 ^ 16
   pub act : IsAct e.choice.act
   pub said : IsSaid e.said
+  pub dropped : IsDropped e.dropped
   pub reply : IsReply e.reply
   pub says : may_say e.choice.act e.said ≡ true
+  pub drops : may_drop e.choice.act e.dropped ≡ true
   pub replies : may_reply e.choice.act e.reply ≡ true

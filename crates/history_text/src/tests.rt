@@ -42,6 +42,12 @@ fn numbered(rt: &impl Abort, kind: Kind, parent: u16, number: u64, ranks: &[u16]
     }
 }
 
+fn is_written(rt: &impl Abort, entry: Entry, line: &[u8]) {
+    let mut out = Line::new();
+    write_entry(&entry, &mut out);
+    assert_eq!(rt; out.as_slice(), line);
+}
+
 fn is_line(
     rt: &impl Abort,
     rank: u16,
@@ -53,11 +59,10 @@ fn is_line(
     let entry = Entry {
         choice: Choice { rank, act },
         said,
+        dropped: None,
         reply,
     };
-    let mut out = Line::new();
-    write_entry(&entry, &mut out);
-    assert_eq!(rt; out.as_slice(), line);
+    is_written(rt, entry, line);
 }
 
 #[test]
@@ -224,4 +229,36 @@ fn a_duplicate_is_written(rt: HostRuntime) {
         size: 1,
     };
     is_answer(&rt, comm, b"0 answer 0 => comm ctx=2 rank=0 size=1");
+}
+
+fn is_back(rt: &impl Abort, rank: u16, ctx: u16, count: u64, line: &[u8]) {
+    let entry = Entry {
+        choice: Choice {
+            rank,
+            act: Act::Back { ctx },
+        },
+        said: None,
+        dropped: Some(count),
+        reply: None,
+    };
+    is_written(rt, entry, line);
+}
+
+#[test]
+fn a_free_is_written(rt: HostRuntime) {
+    let act = Act::Call {
+        thread: 0,
+        op: Op::Free(name(&rt, b"c")),
+    };
+    is_line(&rt, 0, act, None, None, b"0 call 0 free c");
+    is_line(&rt, 0, Act::Leave { ctx: 1 }, None, None, b"0 leave 1");
+    is_back(&rt, 0, 1, 0, b"0 back 1 # drop 0");
+    is_answer(&rt, Reply::Fine, b"0 answer 0 => ok");
+    is_back(
+        &rt,
+        3,
+        63,
+        18_446_744_073_709_551_615,
+        b"3 back 63 # drop 18446744073709551615",
+    );
 }

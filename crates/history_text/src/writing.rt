@@ -1,7 +1,7 @@
 //! Entries, written.
 ghost use Rattle.std.specs.Prelude.{◌≡◌, ◌≤◌, ◌+◌, false, length};
 ghost use Rattle.script_text.specs.Spelling.{has_line_feed};
-ghost use Rattle.history_text.specs.Text.{IsEntry, act_tokens, said_tokens, said_part, reply_tokens, reply_part, entry_text};
+ghost use Rattle.history_text.specs.Text.{IsEntry, act_tokens, said_tokens, said_part, dropped_part, reply_tokens, reply_part, entry_text};
 ghost use Rattle.history_text.specs.Parts.{Adds};
 ghost use Rattle.mpi_base.specs.declared.entries.Entry.{Entry as AnyEntry};
 
@@ -32,6 +32,14 @@ fn put_act(out: &mut Line, act: &Act)
         Act::Settle { key } => {
             put(out, b" settle");
             put_key(out, key);
+        }
+        Act::Leave { ctx } => {
+            put(out, b" leave ");
+            put_number(out, u64::from(*ctx));
+        }
+        Act::Back { ctx } => {
+            put(out, b" back ");
+            put_number(out, u64::from(*ctx));
         }
     }
 }
@@ -66,6 +74,19 @@ fn put_said_part(out: &mut Line, said: Option<Said>)
         Some(said) => {
             put(out, b" #");
             put_said(out, said);
+        }
+    }
+}
+
+fn put_dropped_part(out: &mut Line, dropped: Option<u64>)
+    requires room { length out.old.items + 28 ≤ 2048 }
+    ensures { Adds 28 (dropped_part dropped) out.old.items out.new.items }
+{
+    match dropped {
+        None => {}
+        Some(count) => {
+            put(out, b" # drop ");
+            put_number(out, count);
         }
     }
 }
@@ -110,12 +131,13 @@ fn put_reply_part(out: &mut Line, reply: &Option<Reply>)
 /// Makes `out` the line of an entry, without its line feed.
 pub fn write_entry(entry: &Entry, out: &mut Line)
     ensures text { out.new.items ≡ entry_text entry.now }
-    ensures short { length out.new.items ≤ 1453 }
+    ensures short { length out.new.items ≤ 1481 }
 {
     out.clear();
     put_number(out, u64::from(entry.choice.rank));
     put_act(out, &entry.choice.act);
     put_said_part(out, entry.said);
+    put_dropped_part(out, entry.dropped);
     put_reply_part(out, &entry.reply);
 }
 

@@ -29,6 +29,16 @@ pub enum Act {
         /// The creation.
         key: Key,
     },
+    /// The rank leaves a communicator that was freed here.
+    Leave {
+        /// The communicator's context, from 1.
+        ctx: u16,
+    },
+    /// The rank gives a communicator back that it has left.
+    Back {
+        /// The communicator's context, from 1.
+        ctx: u16,
+    },
 }
 
 impl Act {
@@ -44,6 +54,8 @@ impl Act {
             Act::Answer { thread } => Act::Answer { thread: *thread },
             Act::Offer { key } => Act::Offer { key: key.copy() },
             Act::Settle { key } => Act::Settle { key: key.copy() },
+            Act::Leave { ctx } => Act::Leave { ctx: *ctx },
+            Act::Back { ctx } => Act::Back { ctx: *ctx },
         }
     }
 }
@@ -95,6 +107,8 @@ pub struct Entry {
     pub choice: Choice,
     /// What an offer or a settle said.
     pub said: Option<Said>,
+    /// How many messages a give-back dropped.
+    pub dropped: Option<u64>,
     /// The reply to the thread that called or was answered.
     pub reply: Option<Reply>,
 }
@@ -107,6 +121,7 @@ impl Entry {
         Entry {
             choice: self.choice.copy(),
             said: self.said,
+            dropped: self.dropped,
             reply: match &self.reply {
                 None => None,
                 Some(reply) => Some(reply.copy()),

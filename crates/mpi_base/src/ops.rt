@@ -17,6 +17,8 @@ pub enum Op {
     Create(Name, StringTag, Name),
     /// A duplicate of a communicator (MPI 4.0, 7.4.2).
     Dup(Name, Name),
+    /// Frees a communicator (MPI 4.0, 7.4.3).
+    Free(Name),
 }
 
 impl Op {
@@ -29,6 +31,7 @@ impl Op {
             Op::Pset(session, set, target) => Op::Pset(session.copy(), set.copy(), target.copy()),
             Op::Create(group, tag, target) => Op::Create(group.copy(), tag.copy(), target.copy()),
             Op::Dup(comm, target) => Op::Dup(comm.copy(), target.copy()),
+            Op::Free(comm) => Op::Free(comm.copy()),
         }
     }
 }

@@ -130,13 +130,17 @@ fn keys_are_in_order(rt: HostRuntime) {
     }
 }
 
-fn is_copied(rt: &impl Abort, act: Act, said: Option<Said>, reply: Option<Reply>) {
-    let entry = Entry {
+fn is_copied(rt: &impl Abort, entry: Entry) {
+    assert!(rt; entry.copy() == entry);
+}
+
+fn entry(act: Act, said: Option<Said>, reply: Option<Reply>) -> Entry {
+    Entry {
         choice: Choice { rank: 3, act },
         said,
+        dropped: None,
         reply,
-    };
-    assert!(rt; entry.copy() == entry);
+    }
 }
 
 #[test]
@@ -155,10 +159,25 @@ fn entries_are_copied(rt: HostRuntime) {
         size: 2,
     };
     let call = Act::Call { thread: 7, op };
-    is_copied(&rt, call, None, Some(Reply::Refused(ErrClass::Busy)));
-    is_copied(&rt, Act::Answer { thread: 7 }, None, Some(reply));
-    is_copied(&rt, Act::Offer { key: key.copy() }, Some(Said::Own), None);
-    is_copied(&rt, Act::Settle { key }, Some(Said::Picked(1)), None);
+    let offer = Act::Offer { key: key.copy() };
+    let back = Choice {
+        rank: 3,
+        act: Act::Back { ctx: 1 },
+    };
+    is_copied(&rt, entry(call, None, Some(Reply::Refused(ErrClass::Busy))));
+    is_copied(&rt, entry(Act::Answer { thread: 7 }, None, Some(reply)));
+    is_copied(&rt, entry(offer, Some(Said::Own), None));
+    is_copied(&rt, entry(Act::Settle { key }, Some(Said::Picked(1)), None));
+    is_copied(&rt, entry(Act::Leave { ctx: 1 }, None, None));
+    is_copied(
+        &rt,
+        Entry {
+            choice: back,
+            said: None,
+            dropped: Some(0),
+            reply: None,
+        },
+    );
 }
 
 #[test]

@@ -1,5 +1,8 @@
--- The registry of one rank: a session, its group, a communicator and its duplicate; and what calls are refused.
-use Rattle.std.proofs.Common.{◌≡◌, ℕ, true, false, List, [], ◌∷◌, ◌++◌, replicate, Some, None, codes, refl, lit≤, lit<}
+-- The registry of one rank: a session, its group, a communicator, its duplicate and its end; and
+-- what calls are refused.
+use Rattle.std.proofs.Common.{◌≡◌, ℕ, true, false, List, [], ◌∷◌, ◌++◌, replicate, Some, None, codes, refl, lit≤, lit<, get_or}
+use Rattle.std.specs.List.{list_all}
+use Rattle.mpi_base.specs.MemberLists.{has_rank}
 use Rattle.mpi_base.specs.declared.keys.Key.{Key}
 use Rattle.mpi_base.specs.declared.keys.Kind.TheVariants as kind
 use Rattle.mpi_base.specs.declared.ops.Op.{Op}
@@ -9,9 +12,9 @@ use Rattle.mpi_base.specs.declared.errors.ErrClass.TheVariants as class
 use Rattle.mpi_law.specs.declared.rows.Bound.TheVariants.{Session, Group, Comm}
 use Rattle.mpi_law.specs.declared.setting.Setting.{Setting}
 use Rattle.mpi_law.specs.ScriptLists.{AllScripts}
-use Rattle.mpi_law.specs.Local.{Local, Effect, Says, Duplicated, bind, effect_of}
-use Rattle.mpi_law.specs.Registry.{Registry, Event, Calls, Picks, Replies, Nth_dup, name_of, stands_for, in_use, registry_opening, registry_next, registry_after, IsRegistryRun}
-use Rattle.mpi_law.specs.Closed.{is_closed}
+use Rattle.mpi_law.specs.Local.{Local, Effect, Says, Frees, Duplicated, bind, effect_of}
+use Rattle.mpi_law.specs.Registry.{Registry, Event, Group_and_tag, effect_at, is_open, part_of, Calls, Picks, Backs, Replies, has_open, blank_comm, Nth_dup, name_of, stands_for, in_use, registry_opening, registry_next, registry_after, IsRegistryRun}
+use Rattle.mpi_law.specs.Closed.{is_settled, is_closed}
 
 -- one rank
 abbrev one : Setting
@@ -59,7 +62,7 @@ seven_are_a_run = (
         (
           record { rank = lit< tt; thread = lit< tt; idle = refl; reply = refl },
           (
-            (record { there = lit< tt; members = refl; all = refl }, record { above = lit≤ tt; below = lit≤ tt; unused = refl }),
+            (record { there = lit< tt; members = refl; member = refl; all = refl }, record { above = lit≤ tt; below = lit≤ tt; unused = refl }),
             (
               refl,
               tt,
@@ -72,7 +75,7 @@ seven_are_a_run = (
 )
 
 -- they leave one communicator, of context 1 and rank 0
-one_communicator : (registry_after one start seven).comms ≡ record { ctx = 1; members = 0 ∷ [] } ∷ []
+one_communicator : (registry_after one start seven).comms ≡ record { ctx = 1; members = 0 ∷ []; freed = []; returned = [] } ∷ []
 unfolding registry_next effect_of
 one_communicator = refl
 
@@ -84,6 +87,15 @@ scripts = record { ranks = 1; lists = (open_session ∷ group_of_self ∷ create
 seven_close : is_closed one scripts (registry_after one start seven) ≡ true
 unfolding registry_next effect_of is_closed
 seven_close = refl
+
+-- from the pick to the answer the same group and tag is busy, and then no more
+busy_when_picked : effect_at one (registry_after one start six) 0 (op.Create (codes "g") (codes "a") (codes "d")) ≡ Says (part_of (registry_after one start six) 0).local (reply.Refused class.Busy)
+unfolding registry_next effect_of
+busy_when_picked = refl
+
+not_busy_when_answered : is_open (registry_after one start seven) 0 (Group_and_tag (0 ∷ []) (codes "a")) ≡ false
+unfolding registry_next effect_of
+not_busy_when_answered = refl
 
 -- while the communicator is owed, the registry is not closed
 six_do_not_close : is_closed one scripts (registry_after one start six) ≡ false
@@ -111,7 +123,7 @@ unfolding registry_next effect_of
 three_go_on = (
   record { rank = lit< tt; thread = lit< tt; idle = refl; reply = refl },
   (
-    (record { there = lit< tt; members = refl; all = refl }, record { above = lit≤ tt; below = lit≤ tt; unused = refl }),
+    (record { there = lit< tt; members = refl; member = refl; all = refl }, record { above = lit≤ tt; below = lit≤ tt; unused = refl }),
     (
       refl,
       tt,
@@ -137,6 +149,62 @@ next_dup = refl
 context_in_use : in_use after_seven.comms 0 1 ≡ true
 unfolding registry_next effect_of
 context_in_use = refl
+
+-- A free
+
+abbrev free : Op
+free = op.Free (codes "c")
+
+abbrev after_ten : Registry
+after_ten = registry_after one after_seven three
+
+-- the communicator is freed, given back, and the thread is answered
+abbrev freed : List Event
+freed = Calls 0 0 free false ∷ Backs 0 1 0 ∷ Replies 0 0 reply.Fine ∷ []
+
+freed_go_on : IsRegistryRun one after_ten freed
+unfolding registry_next effect_of
+freed_go_on = (
+  record { rank = lit< tt; thread = lit< tt; idle = refl; reply = refl },
+  (
+    record { place = 0; here = refl; freed = refl; settled = refl; none = refl },
+    (
+      refl,
+      tt,
+    ),
+  ),
+)
+
+-- after the call alone its context is still in use, and after the give-back it is not
+still_in_use : in_use (registry_after one after_ten (Calls 0 0 free false ∷ [])).comms 0 1 ≡ true
+unfolding registry_next effect_of
+still_in_use = refl
+
+in_use_no_more : in_use (registry_after one after_ten freed).comms 0 1 ≡ false
+unfolding registry_next effect_of
+in_use_no_more = refl
+
+-- before the call not all members have freed it
+not_freed_before : list_all (has_rank (get_or after_ten.comms 0 blank_comm).freed) (get_or after_ten.comms 0 blank_comm).members ≡ false
+unfolding registry_next effect_of
+not_freed_before = refl
+
+-- a duplicate that another thread has called is open on it until its answer
+abbrev open_dup : Registry
+open_dup = registry_after one after_ten (Calls 0 1 (op.Dup (codes "c") (codes "f")) false ∷ Calls 0 0 free false ∷ Picks 0 (record { parent = 1; kind = kind.Dup; number = 1; tag = []; members = 0 ∷ [] }) (Some 3) ∷ [])
+
+held_by_dup : has_open open_dup 0 0 ≡ true
+unfolding registry_next effect_of
+held_by_dup = refl
+
+released : has_open (registry_after one open_dup (Replies 0 1 (reply.Comm 3 0 1) ∷ [])) 0 0 ≡ false
+unfolding registry_next effect_of
+released = refl
+
+-- while a give-back is allowed, the registry is not closed
+not_closed_yet : is_settled (registry_after one after_ten (Calls 0 0 free false ∷ [])) 0 ≡ false
+unfolding registry_next effect_of
+not_closed_yet = refl
 
 -- What calls are answered
 
@@ -217,6 +285,19 @@ dup_on_group = refl
 dup_on_bound : answer 0 communicator (op.Dup (codes "c") (codes "c")) ≡ Says communicator (reply.Refused class.Arg)
 unfolding effect_of
 dup_on_bound = refl
+
+-- a free of nothing and of a group; of a communicator it unbinds the name and waits
+free_nothing : answer 0 nothing free ≡ Says nothing (reply.Refused class.Comm)
+unfolding effect_of
+free_nothing = refl
+
+free_group : answer 0 groups (op.Free (codes "g")) ≡ Says groups (reply.Refused class.Comm)
+unfolding effect_of
+free_group = refl
+
+free_communicator : answer 0 communicator free ≡ Frees (record { names = []; sessions = 1 }) 0
+unfolding effect_of
+free_communicator = refl
 
 -- a creation from the empty group makes no communicator
 create_from_empty : answer 0 groups (op.Create (codes "e") (codes "a") (codes "c")) ≡ Says groups reply.Null

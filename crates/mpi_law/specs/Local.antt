@@ -1,5 +1,6 @@
--- What a rank keeps of its own: names and sessions. One definition for the registry and for a rank;
--- they differ in how a communicator is named.
+-- What a rank keeps of its own: names and sessions. One definition for the registry and for a rank; they differ in how a
+-- communicator is named. Names stand for the caller's handles; reserved names, the order of the refusals and what is
+-- refused for a bound target are this project's own. Sections are those of MPI 4.0.
 use Rattle.std.specs.Prelude.{ℕ, ◌+◌, ◌==◌, ◌&&◌, not, Bool, true, false, if◌then◌else◌, List, [], ◌∷◌, ◌++◌, length, map, filter, find, option_map, Option, Some, None, is_some, Result, Ok, Err, bytes_eq, codes}
 use Rattle.std.specs.List.{range_with_len}
 use Rattle.mpi_base.specs.MemberLists.{has_rank}
@@ -90,18 +91,19 @@ pub record Asked : Type 0 where
   pub target : List ℕ
   pub session : ℕ
 
--- what a call does: it replies at once, or it joins a creation and waits
+-- what a call does: it replies at once, it joins a creation and waits, or it frees a communicator and waits
 pub data Effect : Type 0 where
   Says : Local → Reply → Effect
   Joins : Local → Asked → Effect
+  Frees : Local → ℕ → Effect
 
--- a session: its name, bound
+-- a session (11.3): its name, bound
 abbrev pub call_session : Local → List ℕ → Result Effect ErrClass
 call_session l target =
     and_then (refuse_if (is_some (bound_of l.names target)) class.Arg) (λ q.
     Ok (Says (record { names = bind l.names target (Session (l.sessions + 1)); sessions = l.sessions + 1 }) reply.Fine))
 
--- the group of a process set
+-- the group of a process set (7.3.2)
 abbrev pub call_pset : Setting → ℕ → Local → List ℕ → List ℕ → List ℕ → Result Effect ErrClass
 call_pset s rank l session set target =
     and_then (as_session (bound_of l.names session)) (λ from.
@@ -114,16 +116,16 @@ abbrev pub ask : Local → Origin → List ℕ → ℕ → Effect
 ask l origin target session =
     Joins (record { names = bind l.names target Reserved; sessions = l.sessions }) (record { origin = origin; target = target; session = session })
 
--- a communicator from a group: the empty group gives none
+-- a communicator from a group (7.4.2): the empty group gives none
 abbrev pub begin_creation : Local → List ℕ → ℕ → List ℕ → List ℕ → Effect
 begin_creation l [] session tag target = Says l reply.Null
 begin_creation l (m ∷ ms) session tag target = ask l (Grouped (m ∷ ms) tag) target session
 
--- whether a group that is not empty lacks the caller
+-- whether a group that is not empty lacks the caller, who is then refused (7.4.2)
 abbrev pub lacks : List ℕ → ℕ → Bool
 lacks members rank = not (length members == 0) && not (has_rank members rank)
 
--- busy tells whether a creation of this group and tag is open at the rank
+-- busy tells whether a creation of this group and tag is open at the rank; that it is refused then is this project's own
 abbrev pub call_create : ℕ → (List ℕ → List ℕ → Bool) → Local → List ℕ → List ℕ → List ℕ → Result Effect ErrClass
 call_create rank busy l group tag target =
     and_then (as_group (bound_of l.names group)) (λ g.
@@ -132,12 +134,18 @@ call_create rank busy l group tag target =
     and_then (refuse_if (busy g.0 tag) class.Busy) (λ q''.
     Ok (begin_creation l g.0 g.1 tag target)))))
 
--- a duplicate of a communicator, in the session of the communicator
+-- a duplicate of a communicator (7.4.2), in the session of the communicator
 abbrev pub call_dup : Local → List ℕ → List ℕ → Result Effect ErrClass
 call_dup l comm target =
     and_then (as_comm (bound_of l.names comm)) (λ c.
     and_then (refuse_if (is_some (bound_of l.names target)) class.Arg) (λ q.
     Ok (ask l (Duplicated c.0) target c.1)))
+
+-- a communicator is freed (7.4.3): the name is bound to it no longer
+abbrev pub call_free : Local → List ℕ → Result Effect ErrClass
+call_free l comm =
+    and_then (as_comm (bound_of l.names comm)) (λ c.
+    Ok (Frees (record { names = unbind l.names comm; sessions = l.sessions }) c.0))
 
 -- a refused call changes nothing
 abbrev pub refusal : Local → Result Effect ErrClass → Effect
@@ -150,8 +158,10 @@ effect_of s rank busy l (op.Session target) = refusal l (call_session l target)
 effect_of s rank busy l (op.Pset session set target) = refusal l (call_pset s rank l session set target)
 effect_of s rank busy l (op.Create group tag target) = refusal l (call_create rank busy l group tag target)
 effect_of s rank busy l (op.Dup comm target) = refusal l (call_dup l comm target)
+effect_of s rank busy l (op.Free comm) = refusal l (call_free l comm)
 
 -- whether the reply comes at once
 abbrev pub is_said : Effect → Bool
 is_said (Says l r) = true
 is_said (Joins l a) = false
+is_said (Frees l c) = false

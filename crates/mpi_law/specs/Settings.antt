@@ -1,4 +1,4 @@
--- When a setting is within the limits.
+-- When a setting is within the limits, which are this project's own.
 use Rattle.std.specs.Prelude.{◌≤◌}
 use Rattle.mpi_base.specs.declared.members.TheConstants.{MOST_RANKS}
 use Rattle.mpi_law.specs.declared.setting.TheConstants.{MOST_CONTEXTS}

@@ -34,7 +34,7 @@ pub fn is_built(op: &Op) -> bool
 {
     match op {
         Op::Pset(_, set, _) => set.bytes() == b"mpi://SELF".as_slice(),
-        Op::Session(_) | Op::Create(..) | Op::Dup(..) => true,
+        Op::Session(_) | Op::Create(..) | Op::Dup(..) | Op::Free(_) => true,
     }
 }
 

@@ -46,5 +46,6 @@ fn only_the_set_of_the_caller_is_built(rt: HostRuntime) {
     assert!(rt; is_built(&session(&rt, b"a")));
     let comm = Name::new(b"c").expect(&rt, "a name");
     let target = Name::new(b"d").expect(&rt, "a name");
-    assert!(rt; is_built(&Op::Dup(comm, target)));
+    assert!(rt; is_built(&Op::Dup(comm.copy(), target)));
+    assert!(rt; is_built(&Op::Free(comm)));
 }

@@ -47,7 +47,7 @@ is_first r (m ∷ ms) = m == r
 abbrev pub has_offer : List Offer → Key → ℕ → Bool
 has_offer gathered key place = list_any (λ o. same_key o.key key && (o.place == place)) gathered
 
--- all members' offers of the round are there
+-- all members' offers are there; those of earlier rounds are dropped at each settle
 unfoldable pub is_ready : List Offer → Key → Bool
 is_ready gathered key = list_all (has_offer gathered key) (range_with_len 0 (length key.members))
 

@@ -4,7 +4,7 @@ use Rattle.std.specs.List.{list_any}
 use Rattle.mpi_base.specs.declared.keys.Key.{Key}
 use Rattle.mpi_base.specs.Keys.{same_key, key_before}
 use Rattle.mpi_base.specs.declared.entries.Act.{Act}
-use Rattle.mpi_base.specs.declared.entries.Act.TheVariants.{Call, Answer, Offer as MakeOffer, Settle}
+use Rattle.mpi_base.specs.declared.entries.Act.TheVariants.{Call, Answer, Offer as MakeOffer, Settle, Leave, Back}
 use Rattle.mpi_base.specs.declared.entries.Choice.{Choice}
 use Rattle.mpi_base.specs.declared.entries.Entry.{Entry}
 use Rattle.mpi_law.specs.declared.setting.TheConstants.{THREADS}
@@ -25,34 +25,27 @@ is_offered (Some (Done o)) = false
 abbrev pub offered_anywhere : List Rank → Key → Bool
 offered_anywhere w key = list_any (λ x. is_offered (stage_of x.opened key)) w
 
--- answers first, then settles, offers of a key that some rank has offered, other offers, and calls
+-- answers first, then settles, offers of a key that some rank has offered, other offers, leaves, give-backs, and calls
 abbrev pub kind_of : List Rank → Act → ℕ
 kind_of w (Answer t) = 2
 kind_of w (Settle key) = 3
 kind_of w (MakeOffer key) = if offered_anywhere w key then 4 else 5
+kind_of w (Leave c) = 6
+kind_of w (Back c) = 7
 kind_of w (Call t op) = 8
 
 abbrev pub is_pair_le : ℕ → ℕ → ℕ → ℕ → Bool
 is_pair_le r t q u = nat_lt r q || ((r == q) && nat_le t u)
 
--- within a kind: by rank and thread, by rank and key, or by key and rank
+-- within a kind: by rank and thread, by rank and key, by key and rank, or by rank and context
 abbrev pub is_within : ℕ → Act → ℕ → Act → Bool
 is_within r (Answer t) q (Answer u) = is_pair_le r t q u
-is_within r (Answer t) q (Settle l) = true
-is_within r (Answer t) q (MakeOffer l) = true
-is_within r (Answer t) q (Call u op) = true
 is_within r (Settle k) q (Settle l) = nat_lt r q || ((r == q) && not (key_before l k))
-is_within r (Settle k) q (Answer u) = true
-is_within r (Settle k) q (MakeOffer l) = true
-is_within r (Settle k) q (Call u op) = true
 is_within r (MakeOffer k) q (MakeOffer l) = key_before k l || (same_key k l && nat_le r q)
-is_within r (MakeOffer k) q (Answer u) = true
-is_within r (MakeOffer k) q (Settle l) = true
-is_within r (MakeOffer k) q (Call u op) = true
+is_within r (Leave c) q (Leave d) = is_pair_le r c q d
+is_within r (Back c) q (Back d) = is_pair_le r c q d
 is_within r (Call t op) q (Call u op') = is_pair_le r t q u
-is_within r (Call t op) q (Answer u) = true
-is_within r (Call t op) q (Settle l) = true
-is_within r (Call t op) q (MakeOffer l) = true
+is_within r _ q _ = true
 
 -- a choice comes no later than another
 abbrev pub is_no_later : List Rank → Choice → Choice → Bool
@@ -66,6 +59,8 @@ IsOfScript scripts x r (Call t op) = next_op scripts r t (thread_at x t).calls �
 IsOfScript scripts x r (Answer t) = Unit {0}
 IsOfScript scripts x r (MakeOffer key) = Unit {0}
 IsOfScript scripts x r (Settle key) = Unit {0}
+IsOfScript scripts x r (Leave c) = Unit {0}
+IsOfScript scripts x r (Back c) = Unit {0}
 
 -- a choice that the drain may make
 pub record IsOpenTo (w : List Rank) (scripts : AllScripts) (c : Choice) : Type 0 where
@@ -87,6 +82,8 @@ is_call (Call t op) = true
 is_call (Answer t) = false
 is_call (MakeOffer key) = false
 is_call (Settle key) = false
+is_call (Leave c) = false
+is_call (Back c) = false
 
 -- no choice but a call may be made, and each thread that waits for nothing is at the end of its script
 pub record IsQuiet (w : List Rank) (scripts : AllScripts) : Type 0 where

@@ -1,4 +1,4 @@
--- The state of a rank, as lists, maps and numbers.
+-- The state of a rank, as lists, maps and numbers. All of it is this project's own.
 use Rattle.std.specs.Prelude.{ℕ, ◌+◌, ◌==◌, not, Bool, true, false, if◌then◌else◌, List, [], ◌∷◌, ◌++◌, map, filter, find, option_map, get_or, replicate, Option, None, unwrap_or}
 use Rattle.mpi_base.specs.declared.keys.Key.{Key}
 use Rattle.mpi_base.specs.Keys.{same_key}
@@ -8,10 +8,12 @@ use Rattle.mpi_law.specs.Local.{Local}
 use Rattle.mpi_protocol.specs.declared.rows.CreationRow.{CreationRow}
 use Rattle.mpi_protocol.specs.declared.rows.RoundRow.{RoundRow}
 use Rattle.mpi_protocol.specs.declared.rows.CommRow.{CommRow}
+use Rattle.mpi_protocol.specs.declared.rows.CommStage.{CommStage}
+use Rattle.mpi_protocol.specs.declared.rows.CommStage.TheVariants.{Live}
 use Rattle.mpi_protocol.specs.declared.rows.ThreadRow.{ThreadRow}
 use Rattle.mpi_protocol.specs.declared.rows.Stage.{Stage}
 use Rattle.mpi_protocol.specs.declared.rows.Waits.{Waits}
-use Rattle.mpi_protocol.specs.declared.rows.Waits.TheVariants.{Nothing, Creation}
+use Rattle.mpi_protocol.specs.declared.rows.Waits.TheVariants.{Nothing, Creation, Freeing, Returned}
 use Rattle.ctx_mask.specs.Masks.{full_of}
 
 -- an offer of a member, gathered at the first member: the place of the member, whether it owns, and its mask
@@ -64,11 +66,14 @@ abbrev pub round_of : List RoundRow → Key → ℕ
 round_of rounds key = unwrap_or (option_map (λ o. o.round) (find (λ o. same_key o.key key) rounds)) 0
 
 abbrev pub blank_comm : CommRow
-blank_comm = record { ctx = 0; members = []; session = 0; creations = 0 }
+blank_comm = record { ctx = 0; members = []; session = 0; creations = 0; stage = Live }
 
--- the communicator with this context
+-- the communicator with this context, if there is one here
+abbrev pub row_at : List CommRow → ℕ → Option CommRow
+row_at comms c = find (λ m. m.ctx == c) comms
+
 abbrev pub comm_at : List CommRow → ℕ → CommRow
-comm_at comms c = unwrap_or (find (λ m. m.ctx == c) comms) blank_comm
+comm_at comms c = unwrap_or (row_at comms c) blank_comm
 
 abbrev pub thread_at : Rank → ℕ → ThreadRow
 thread_at x t = get_or x.threads t idle_thread
@@ -76,16 +81,29 @@ thread_at x t = get_or x.threads t idle_thread
 abbrev pub is_idle : Waits → Bool
 is_idle Nothing = true
 is_idle (Creation key target session) = false
+is_idle (Freeing c) = false
+is_idle Returned = false
+
+-- whether a thread waits for this context to be given back
+abbrev pub is_freeing : ℕ → Waits → Bool
+is_freeing c Nothing = false
+is_freeing c (Creation key target session) = false
+is_freeing c (Freeing d) = d == c
+is_freeing c Returned = false
 
 -- whether a thread waits for this key
 abbrev pub waits_on : Key → Waits → Bool
 waits_on key Nothing = false
 waits_on key (Creation k target session) = same_key k key
+waits_on key (Freeing c) = false
+waits_on key Returned = false
 
 -- the session of the creation that a thread waits for
 abbrev pub session_in : Waits → ℕ
 session_in Nothing = 0
 session_in (Creation key target session) = session
+session_in (Freeing c) = 0
+session_in Returned = 0
 
 -- the session of an open creation
 abbrev pub session_of : List ThreadRow → Key → ℕ
@@ -94,11 +112,29 @@ session_of threads key = unwrap_or (option_map (λ t. session_in t.waits) (find 
 -- Changes of rows
 
 abbrev pub with_creation : ℕ → CommRow → CommRow
-with_creation c m = if m.ctx == c then record { ctx = m.ctx; members = m.members; session = m.session; creations = m.creations + 1 } else m
+with_creation c m = if m.ctx == c then record { ctx = m.ctx; members = m.members; session = m.session; creations = m.creations + 1; stage = m.stage } else m
 
 -- one more creation on the communicator with this context
 abbrev pub count_creation : List CommRow → ℕ → List CommRow
 count_creation comms c = map (with_creation c) comms
+
+abbrev pub with_stage : ℕ → CommStage → CommRow → CommRow
+with_stage c stage m = if m.ctx == c then record { ctx = m.ctx; members = m.members; session = m.session; creations = m.creations; stage = stage } else m
+
+-- the communicator with this context goes on to a stage
+abbrev pub set_comm_stage : List CommRow → ℕ → CommStage → List CommRow
+set_comm_stage comms c stage = map (with_stage c stage) comms
+
+-- the communicator with this context is gone
+abbrev pub drop_comm : List CommRow → ℕ → List CommRow
+drop_comm comms c = filter (λ m. not (m.ctx == c)) comms
+
+-- a thread that waits for this context to be given back waits for nothing more
+abbrev pub returned_to : ℕ → ThreadRow → ThreadRow
+returned_to c t = if is_freeing c t.waits then record { calls = t.calls; waits = Returned } else t
+
+abbrev pub return_threads : List ThreadRow → ℕ → List ThreadRow
+return_threads threads c = map (returned_to c) threads
 
 abbrev pub open_creation : List CreationRow → Key → Stage → List CreationRow
 open_creation opened key stage = opened ++ record { key = key; stage = stage } ∷ []

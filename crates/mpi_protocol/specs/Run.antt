@@ -1,16 +1,16 @@
--- Protocol runs, and what the registry sees of them.
+-- Protocol runs, and what the registry sees of them. This project's own.
 use Rattle.std.specs.Prelude.{◌≡◌, ℕ, ◌==◌, ◌&&◌, true, if◌then◌else◌, List, [], ◌∷◌, Option, Some, None, is_some}
 use Rattle.std.specs.List.{flat_map}
 use Rattle.mpi_base.specs.declared.ops.Op.{Op}
 use Rattle.mpi_base.specs.declared.ops.Reply.{Reply}
 use Rattle.mpi_base.specs.declared.keys.Key.{Key}
 use Rattle.mpi_base.specs.declared.entries.Act.{Act}
-use Rattle.mpi_base.specs.declared.entries.Act.TheVariants.{Call, Answer, Offer as MakeOffer, Settle}
+use Rattle.mpi_base.specs.declared.entries.Act.TheVariants.{Call, Answer, Offer as MakeOffer, Settle, Leave, Back}
 use Rattle.mpi_base.specs.declared.entries.Said.{Said}
 use Rattle.mpi_base.specs.declared.entries.Said.TheVariants as said
 use Rattle.mpi_base.specs.declared.entries.Entry.{Entry}
 use Rattle.mpi_law.specs.declared.setting.Setting.{Setting}
-use Rattle.mpi_law.specs.Registry.{Event, Calls, Picks, Replies}
+use Rattle.mpi_law.specs.Registry.{Event, Calls, Picks, Backs, Replies}
 use Rattle.mpi_protocol.specs.Rank.{Rank}
 use Rattle.mpi_protocol.specs.World.{opening, may_happen, moved, entry_at}
 
@@ -47,15 +47,21 @@ pick_events r key (Some (said.Picked c)) = Picks r key (Some c) ∷ []
 pick_events r key (Some said.Exhausted) = Picks r key None ∷ []
 pick_events r key (Some said.Shared) = []
 
--- the call, the pick and the reply, as far as the entry has them
-abbrev pub act_events : ℕ → Act → Option Said → Option Reply → List Event
-act_events r (Call t op) s reply = Calls r t op (is_some reply) ∷ reply_events r t reply
-act_events r (Answer t) s reply = reply_events r t reply
-act_events r (MakeOffer key) s reply = []
-act_events r (Settle key) s reply = pick_events r key s
+abbrev pub back_events : ℕ → ℕ → Option ℕ → List Event
+back_events r c None = []
+back_events r c (Some dropped) = Backs r c dropped ∷ []
+
+-- the call, the pick, the give-back and the reply, as far as the entry has them
+abbrev pub act_events : ℕ → Act → Option Said → Option ℕ → Option Reply → List Event
+act_events r (Call t op) s dropped reply = Calls r t op (is_some reply) ∷ reply_events r t reply
+act_events r (Answer t) s dropped reply = reply_events r t reply
+act_events r (MakeOffer key) s dropped reply = []
+act_events r (Settle key) s dropped reply = pick_events r key s
+act_events r (Leave c) s dropped reply = []
+act_events r (Back c) s dropped reply = back_events r c dropped
 
 unfoldable pub entry_events : Entry → List Event
-entry_events e = act_events e.choice.rank e.choice.act e.said e.reply
+entry_events e = act_events e.choice.rank e.choice.act e.said e.dropped e.reply
 
 abbrev pub events_of : List Entry → List Event
 events_of journal = flat_map entry_events journal
@@ -67,6 +73,8 @@ call_of r t rank (Call u op) = if (rank == r) && (u == t) then op ∷ [] else []
 call_of r t rank (Answer u) = []
 call_of r t rank (MakeOffer key) = []
 call_of r t rank (Settle key) = []
+call_of r t rank (Leave c) = []
+call_of r t rank (Back c) = []
 
 -- the operations that a thread of a rank calls in a journal, in order
 abbrev pub calls_of : ℕ → ℕ → List Entry → List Op

@@ -1,19 +1,20 @@
--- The step of a rank: a function of its state and the act. It gives the new state and the entry.
-use Rattle.std.specs.Prelude.{◌≡◌, ℕ, ◌+◌, ◌&&◌, Bool, true, false, if◌then◌else◌, List, [], ◌∷◌, ◌++◌, length, set, Option, Some, None, is_some, nat_lt}
+-- The step of a rank: a function of its state and the act. It gives the new state and the entry. This project's own.
+use Rattle.std.specs.Prelude.{◌≡◌, ℕ, ◌+◌, ◌&&◌, Bool, true, false, if◌then◌else◌, List, [], ◌∷◌, ◌++◌, length, set, Option, Some, None, is_some, nat_lt, is_none, not, ◌==◌}
+use Rattle.std.specs.List.{list_all}
 use Rattle.mpi_base.specs.declared.keys.Key.{Key}
 use Rattle.mpi_base.specs.declared.keys.Kind.TheVariants.{From, Dup}
 use Rattle.mpi_base.specs.declared.ops.Reply.{Reply}
 use Rattle.mpi_base.specs.declared.ops.Reply.TheVariants as reply
 use Rattle.mpi_base.specs.declared.errors.ErrClass.TheVariants as class
 use Rattle.mpi_base.specs.declared.entries.Act.{Act}
-use Rattle.mpi_base.specs.declared.entries.Act.TheVariants.{Call, Answer, Offer as MakeOffer, Settle}
+use Rattle.mpi_base.specs.declared.entries.Act.TheVariants.{Call, Answer, Offer as MakeOffer, Settle, Leave, Back}
 use Rattle.mpi_base.specs.declared.entries.Said.{Said}
 use Rattle.mpi_base.specs.declared.entries.Said.TheVariants as said
 use Rattle.mpi_base.specs.declared.entries.Entry.{Entry}
 use Rattle.mpi_law.specs.declared.rows.Bound.TheVariants.{Comm}
 use Rattle.mpi_law.specs.declared.setting.TheConstants.{THREADS}
 use Rattle.mpi_law.specs.ScriptLists.{is_built}
-use Rattle.mpi_law.specs.Local.{Local, Effect, Says, Joins, Origin, Grouped, Duplicated, Asked, effect_of, rebind, unbind}
+use Rattle.mpi_law.specs.Local.{Local, Effect, Says, Joins, Frees, Origin, Grouped, Duplicated, Asked, effect_of, rebind, unbind}
 use Rattle.mpi_law.specs.Registry.{place_in}
 use Rattle.ctx_mask.specs.Masks.{none_of}
 use Rattle.mpi_protocol.specs.declared.rows.Outcome.{Outcome}
@@ -23,16 +24,20 @@ use Rattle.mpi_protocol.specs.declared.rows.Stage.TheVariants.{Called, Waiting, 
 use Rattle.mpi_protocol.specs.declared.rows.Verdict.{Verdict}
 use Rattle.mpi_protocol.specs.declared.rows.Verdict.TheVariants as verdict
 use Rattle.mpi_protocol.specs.declared.rows.Waits.{Waits}
-use Rattle.mpi_protocol.specs.declared.rows.Waits.TheVariants.{Nothing, Creation}
+use Rattle.mpi_protocol.specs.declared.rows.Waits.TheVariants.{Nothing, Creation, Freeing, Returned}
 use Rattle.mpi_protocol.specs.declared.rows.ThreadRow.{ThreadRow}
 use Rattle.mpi_protocol.specs.declared.rows.CommRow.{CommRow}
-use Rattle.mpi_protocol.specs.Rank.{Rank, Offer, stage_of, round_of, thread_at, is_idle, session_of, comm_at, count_creation, open_creation, set_stage, close_creation, set_round, drop_round, drop_offers}
+use Rattle.mpi_protocol.specs.declared.rows.CommStage.{CommStage}
+use Rattle.mpi_protocol.specs.declared.rows.CommStage.TheVariants.{Live, Freed, Left}
+use Rattle.mpi_protocol.specs.declared.rows.CreationRow.{CreationRow}
+use Rattle.mpi_protocol.specs.Rank.{Rank, Offer, stage_of, round_of, thread_at, is_idle, session_of, row_at, comm_at, count_creation, set_comm_stage, drop_comm, return_threads, open_creation, set_stage, close_creation, set_round, drop_round, drop_offers}
 use Rattle.mpi_protocol.specs.Agreement.{may_own, let_go, is_first, is_ready, verdict_of}
 
--- what a step leaves, what it says and what it replies
+-- what a step leaves, what it says, how many messages it drops and what it replies
 pub record Move : Type 0 where
   pub state : Rank
   pub said : Option Said
+  pub dropped : Option ℕ
   pub reply : Option Reply
 
 -- Calls
@@ -89,9 +94,17 @@ called x t (Says l r) =
     record {
       state = record x { local = l; threads = with_thread x t (record { calls = (thread_at x t).calls + 1; waits = Nothing }) };
       said = None;
+      dropped = None;
       reply = Some r;
     }
-called x t (Joins l a) = record { state = joined x t l a; said = None; reply = None }
+called x t (Frees l c) =
+    record {
+      state = record x { comms = set_comm_stage x.comms c Freed; local = l; threads = with_thread x t (record { calls = (thread_at x t).calls + 1; waits = Freeing c }) };
+      said = None;
+      dropped = None;
+      reply = None;
+    }
+called x t (Joins l a) = record { state = joined x t l a; said = None; dropped = None; reply = None }
 
 -- Answers
 
@@ -109,17 +122,19 @@ ended x t key target session (outcome.Context c) =
     record {
       state = answer_state x t key (record { names = rebind x.local.names target (Comm c session); sessions = x.local.sessions });
       said = None;
+      dropped = None;
       reply = Some (reply.Comm c (place_in key.members x.rank) (length key.members));
     }
 ended x t key target session outcome.Exhausted =
     record {
       state = answer_state x t key (record { names = unbind x.local.names target; sessions = x.local.sessions });
       said = None;
+      dropped = None;
       reply = Some (reply.Refused class.Exhausted);
     }
 
 abbrev pub stays : Rank → Move
-stays x = record { state = x; said = None; reply = None }
+stays x = record { state = x; said = None; dropped = None; reply = None }
 
 abbrev pub if_done : Rank → ℕ → Key → List ℕ → ℕ → Option Stage → Move
 if_done x t key target session None = stays x
@@ -130,6 +145,14 @@ if_done x t key target session (Some (Done o)) = ended x t key target session o
 
 abbrev pub answered : Rank → ℕ → Waits → Move
 answered x t Nothing = stays x
+answered x t (Freeing c) = stays x
+answered x t Returned =
+    record {
+      state = record x { threads = with_thread x t (record { calls = (thread_at x t).calls; waits = Nothing }) };
+      said = None;
+      dropped = None;
+      reply = Some reply.Fine;
+    }
 answered x t (Creation key target session) = if_done x t key target session (stage_of x.opened key)
 
 -- Offers
@@ -144,6 +167,7 @@ offered x key i =
         gathered = gather x key own (if own then x.mask else empty_mask x);
       };
       said = Some (if own then said.Own else said.Zero);
+      dropped = None;
       reply = None;
     }
 
@@ -165,7 +189,7 @@ takes x key i (verdict.Context c) =
       mask = set x.mask c false;
       owner = let_go x.owner key;
       opened = set_stage x.opened key (Done (outcome.Context c));
-      comms = x.comms ++ record { ctx = c; members = key.members; session = session_of x.threads key; creations = 0 } ∷ [];
+      comms = x.comms ++ record { ctx = c; members = key.members; session = session_of x.threads key; creations = 0; stage = Live } ∷ [];
     }
 takes x key i verdict.Exhausted = record x { owner = let_go x.owner key; opened = set_stage x.opened key (Done outcome.Exhausted) }
 
@@ -183,7 +207,50 @@ said_of (verdict.Context c) = said.Picked c
 said_of verdict.Exhausted = said.Exhausted
 
 abbrev pub settled : Rank → Key → ℕ → Verdict → Move
-settled x key i v = record { state = takes (rounds_after x key i v) key i v; said = Some (said_of v); reply = None }
+settled x key i v = record { state = takes (rounds_after x key i v) key i v; said = Some (said_of v); dropped = None; reply = None }
+
+-- Leaves and give-backs
+
+-- no creation on the communicator with this context is open here
+unfoldable pub has_none_open : List CreationRow → ℕ → Bool
+has_none_open opened c = list_all (λ o. not (o.key.parent == c)) opened
+
+abbrev pub is_freed : CommStage → Bool
+is_freed Live = false
+is_freed Freed = true
+is_freed Left = false
+
+abbrev pub is_left : CommStage → Bool
+is_left Live = false
+is_left Freed = false
+is_left Left = true
+
+-- the rank leaves a communicator that is freed here, with no creation on it open
+abbrev pub may_leave : Rank → ℕ → Option CommRow → Bool
+may_leave x c None = false
+may_leave x c (Some m) = is_freed m.stage && has_none_open x.opened c
+
+-- there is no other member, who would have to leave it too and tell so; no rank can tell another anything yet
+abbrev pub is_sole : ℕ → CommRow → Bool
+is_sole r m = list_all (λ q. q == r) m.members
+
+-- the rank gives back a communicator that it has left and that has no other member, while no key owns the mask
+abbrev pub may_give_back : Rank → Option CommRow → Bool
+may_give_back x None = false
+may_give_back x (Some m) = is_left m.stage && (is_sole x.rank m && is_none x.owner)
+
+abbrev pub left_behind : Rank → ℕ → Move
+left_behind x c = record { state = record x { comms = set_comm_stage x.comms c Left }; said = None; dropped = None; reply = None }
+
+-- the communicator is gone and its context is free; there are no messages yet to be dropped
+abbrev pub given_back : Rank → ℕ → Move
+given_back x c =
+    record {
+      state = record x { mask = set x.mask c true; comms = drop_comm x.comms c; threads = return_threads x.threads c };
+      said = None;
+      dropped = Some 0;
+      reply = None;
+    }
 
 -- The step
 
@@ -204,6 +271,8 @@ is_due (Some (Done o)) = false
 -- what a thread waits for is there
 abbrev pub is_answerable : Rank → Waits → Bool
 is_answerable x Nothing = false
+is_answerable x (Freeing c) = false
+is_answerable x Returned = true
 is_answerable x (Creation key target session) = is_done (stage_of x.opened key)
 
 -- when an act may be made
@@ -212,16 +281,20 @@ is_enabled x (Call t op) = nat_lt t THREADS && (is_idle (thread_at x t).waits &&
 is_enabled x (Answer t) = nat_lt t THREADS && is_answerable x (thread_at x t).waits
 is_enabled x (MakeOffer key) = is_due (stage_of x.opened key)
 is_enabled x (Settle key) = is_first x.rank key.members && is_ready x.gathered key
+is_enabled x (Leave c) = may_leave x c (row_at x.comms c)
+is_enabled x (Back c) = may_give_back x (row_at x.comms c)
 
 unfoldable pub step : Rank → Act → Move
 step x (Call t op) = called x t (effect_of x.setting x.rank (is_open_here x) x.local op)
 step x (Answer t) = answered x t (thread_at x t).waits
 step x (MakeOffer key) = if_waiting x key (stage_of x.opened key)
+step x (Leave c) = left_behind x c
+step x (Back c) = given_back x c
 step x (Settle key) = settled x key (round_of x.rounds key) (verdict_of x.setting.contexts x.gathered key (round_of x.rounds key))
 
 -- the entry of a step
 abbrev pub entry_of : Rank → Act → Move → Entry
-entry_of x act m = record { choice = record { rank = x.rank; act = act }; said = m.said; reply = m.reply }
+entry_of x act m = record { choice = record { rank = x.rank; act = act }; said = m.said; dropped = m.dropped; reply = m.reply }
 
 -- old goes on to new by an act, with this entry
 pub record Steps (old : Rank) (act : Act) (new : Rank) (line : Entry) : Type 0 where

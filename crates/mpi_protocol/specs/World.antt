@@ -1,4 +1,4 @@
--- All ranks.
+-- All ranks, each with its own state. This project's own.
 use Rattle.std.specs.Prelude.{ℕ, ◌&&◌, Bool, List, map, length, get_or, set, nat_lt}
 use Rattle.std.specs.List.{range_with_len}
 use Rattle.mpi_base.specs.declared.entries.Choice.{Choice}

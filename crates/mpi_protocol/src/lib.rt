@@ -4,4 +4,6 @@
 
 mod rows;
 
-pub use rows::{CommRow, CreationRow, Outcome, RoundRow, Stage, ThreadRow, Verdict, Waits};
+pub use rows::{
+    CommRow, CommStage, CreationRow, Outcome, RoundRow, Stage, ThreadRow, Verdict, Waits,
+};

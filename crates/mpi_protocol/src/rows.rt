@@ -60,6 +60,17 @@ pub struct RoundRow {
     pub round: u64,
 }
 
+/// How far a communicator is at a rank.
+#[derive(Clone, Copy, Debug, Drop, PartialEq, Eq)]
+pub enum CommStage {
+    /// In use.
+    Live,
+    /// Freed here.
+    Freed,
+    /// Freed, and left: no creation on it is open here.
+    Left,
+}
+
 /// A communicator of a rank.
 #[derive(Drop)]
 pub struct CommRow {
@@ -71,6 +82,8 @@ pub struct CommRow {
     pub session: u64,
     /// How many creations on it this rank has called.
     pub creations: u64,
+    /// How far it is here.
+    pub stage: CommStage,
 }
 
 /// What a thread waits for.
@@ -87,6 +100,13 @@ pub enum Waits {
         /// The session of the communicator to be.
         session: u64,
     },
+    /// That a communicator which it has freed is given back.
+    Freeing {
+        /// The communicator's context.
+        ctx: u16,
+    },
+    /// Nothing more: its communicator is given back.
+    Returned,
 }
 
 /// A thread of a rank.

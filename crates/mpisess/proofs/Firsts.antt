@@ -10,14 +10,14 @@ use Rattle.mpi_base.specs.Keys.{same_key, key_before}
 use Rattle.mpi_base.proofs.KeyFacts.{same_key-refl, key_before_total}
 use Rattle.mpi_base.specs.declared.ops.Op.{Op}
 use Rattle.mpi_base.specs.declared.entries.Act.{Act}
-use Rattle.mpi_base.specs.declared.entries.Act.TheVariants.{Call, Answer, Offer as MakeOffer, Settle}
+use Rattle.mpi_base.specs.declared.entries.Act.TheVariants.{Call, Answer, Offer as MakeOffer, Settle, Leave, Back}
 use Rattle.mpi_law.specs.ScriptLists.{AllScripts, script_of, next_op, is_built}
 use Rattle.mpi_protocol.specs.declared.rows.Stage.{Stage}
 use Rattle.mpi_protocol.specs.declared.rows.Stage.TheVariants.{Called, Waiting, Offered, Done}
 use Rattle.mpi_protocol.specs.Rank.{Rank, stage_of, thread_at, is_idle}
 use Rattle.mpi_protocol.specs.Step.{is_enabled, is_due}
 use Rattle.mpi_protocol.specs.World.{rank_at, may_happen}
-use Rattle.mpi_protocol.specs.Order.{IsFirstChoice, IsQuiet, IsOfScript, is_no_later, is_call, is_offered}
+use Rattle.mpi_protocol.specs.Order.{IsFirstChoice, IsQuiet, IsOfScript, is_no_later, is_pair_le, is_call, is_offered}
 use Rattle.rank_core.specs.declared.next.StepKind.TheVariants as kind
 use Rattle.rank_core.specs.Next.{IsNext, NoneNext}
 use Rattle.run_law.specs.Solo.{IsSolo}
@@ -25,10 +25,16 @@ use Rattle.mpisess.specs.Calls.{IsNextCall, NoNextCall}
 use Rattle.mpisess.specs.Job.{IsSoloJob}
 
 -- no answer, no settle and no offer may be made
-pub record Still (x : Rank) : Type 0 where
+pub record NoneAgree (x : Rank) : Type 0 where
   pub answers : NoneNext x kind.Answer None
   pub settles : NoneNext x kind.Settle None
   pub offers : NoneNext x kind.Offer None
+
+-- nor any leave or give-back
+pub record Still (x : Rank) : Type 0 where
+  pub agree : NoneAgree x
+  pub leaves : NoneNext x kind.Leave None
+  pub backs : NoneNext x kind.Back None
 
 -- there is no other rank
 far : (x : Rank) (r : ℕ) (a : Act) → may_happen (x ∷ []) (record { rank = suc r; act = a }) ≡ false
@@ -42,6 +48,12 @@ no_settle x key none e = true≢false (none (Settle key) refl e)
 
 no_offer : (x : Rank) (key : Key) → NoneNext x kind.Offer None → is_enabled x (MakeOffer key) ≡ true → ⊥
 no_offer x key none e = true≢false (none (MakeOffer key) refl e)
+
+no_leave : (x : Rank) (c : ℕ) → NoneNext x kind.Leave None → is_enabled x (Leave c) ≡ true → ⊥
+no_leave x c none e = true≢false (none (Leave c) refl e)
+
+no_back : (x : Rank) (c : ℕ) → NoneNext x kind.Back None → is_enabled x (Back c) ≡ true → ⊥
+no_back x c none e = true≢false (none (Back c) refl e)
 
 -- a key whose offer is due is not offered
 due_is_not_offered : (s : Option Stage) → is_due s ≡ true → is_offered s ≡ false
@@ -68,12 +80,16 @@ offer_no_later : (x : Rank) (k l : Key) → is_enabled x (MakeOffer k) ≡ true 
     → is_no_later (x ∷ []) (record { rank = 0; act = MakeOffer k }) (record { rank = 0; act = MakeOffer l }) ≡ true
 offer_no_later x k l e f b = rw (not_offered x k e, not_offered x l f) (not_after k l b)
 
--- the offers are the fourth or fifth kind, and calls the last
-offer_before_call : (x : Rank) (k : Key) (t : ℕ) (op : Op) → is_no_later (x ∷ []) (record { rank = 0; act = MakeOffer k }) (record { rank = 0; act = Call t op }) ≡ true
-offer_before_call x k t op = cases (is_offered (stage_of x.opened k)) where
-  cases : (b : Bool) → (nat_lt (if b || false then 4 else 5) 8 || (((if b || false then 4 else 5) == 8) && true)) ≡ true
-  cases true = refl
-  cases false = refl
+-- the offers are the fourth or fifth kind, and leaves, give-backs and calls the later ones
+offer_before : (x : Rank) (k : Key) (n : ℕ) → 5 < n → (nat_lt (if is_offered (stage_of x.opened k) || false then 4 else 5) n || (((if is_offered (stage_of x.opened k) || false then 4 else 5) == n) && true)) ≡ true
+offer_before x k n l = cases (is_offered (stage_of x.opened k)) where
+  cases : (b : Bool) → (nat_lt (if b || false then 4 else 5) n || (((if b || false then 4 else 5) == n) && true)) ≡ true
+  cases true = grind (arith, nat_tests, l)
+  cases false = grind (arith, nat_tests, l)
+
+-- of two contexts, one that is not above the other comes first or is the same
+context_no_later : (c d : ℕ) → nat_lt d c ≡ false → is_pair_le 0 c 0 d ≡ true
+context_no_later c d e = grind (arith, nat_tests, e)
 
 not_before : (b : Bool) → (b ≡ true → ⊥) → b ≡ false
 not_before true n = absurd (n refl)
@@ -85,16 +101,60 @@ pub offer_first : (x : Rank) (scripts : AllScripts) (act : Act) → IsNext x kin
 offer_first x scripts (Call t op) n answers settles = absurd (true≢false (sym n.kind))
 offer_first x scripts (Answer t) n answers settles = absurd (true≢false (sym n.kind))
 offer_first x scripts (Settle key) n answers settles = absurd (true≢false (sym n.kind))
+offer_first x scripts (Leave c) n answers settles = absurd (true≢false (sym n.kind))
+offer_first x scripts (Back c) n answers settles = absurd (true≢false (sym n.kind))
 offer_first x scripts (MakeOffer key) n answers settles = record {
   may = record { enabled = n.enabled; scripted = tt };
   least = λ d may. later d.rank d.act may.enabled;
 } where
   later : (r : ℕ) (a : Act) → may_happen (x ∷ []) (record { rank = r; act = a }) ≡ true → is_no_later (x ∷ []) (record { rank = 0; act = MakeOffer key }) (record { rank = r; act = a }) ≡ true
   later (suc r) a e = absurd (true≢false (sym e ∙ far x r a))
-  later zero (Call t op) e = offer_before_call x key t op
+  later zero (Call t op) e = offer_before x key 8 (omega arith)
+  later zero (Leave d) e = offer_before x key 6 (omega arith)
+  later zero (Back d) e = offer_before x key 7 (omega arith)
   later zero (Answer t) e = absurd (no_answer x t answers e)
   later zero (Settle l) e = absurd (no_settle x l settles e)
   later zero (MakeOffer l) e = offer_no_later x key l n.enabled e (n.least (MakeOffer l) refl e refl)
+
+-- the least leave is the first choice where nothing of an agreement can be done
+pub leave_first : (x : Rank) (scripts : AllScripts) (act : Act) → IsNext x kind.Leave None act → NoneAgree x → IsFirstChoice (x ∷ []) scripts (record { rank = 0; act = act })
+leave_first x scripts (Call t op) n none = absurd (true≢false (sym n.kind))
+leave_first x scripts (Answer t) n none = absurd (true≢false (sym n.kind))
+leave_first x scripts (Settle key) n none = absurd (true≢false (sym n.kind))
+leave_first x scripts (MakeOffer key) n none = absurd (true≢false (sym n.kind))
+leave_first x scripts (Back c) n none = absurd (true≢false (sym n.kind))
+leave_first x scripts (Leave c) n none = record {
+  may = record { enabled = n.enabled; scripted = tt };
+  least = λ d may. later d.rank d.act may.enabled;
+} where
+  later : (r : ℕ) (a : Act) → may_happen (x ∷ []) (record { rank = r; act = a }) ≡ true → is_no_later (x ∷ []) (record { rank = 0; act = Leave c }) (record { rank = r; act = a }) ≡ true
+  later (suc r) a e = absurd (true≢false (sym e ∙ far x r a))
+  later zero (Call t op) e = refl
+  later zero (Answer t) e = absurd (no_answer x t none.answers e)
+  later zero (Settle l) e = absurd (no_settle x l none.settles e)
+  later zero (MakeOffer l) e = absurd (no_offer x l none.offers e)
+  later zero (Leave d) e = context_no_later c d (n.least (Leave d) refl e refl)
+  later zero (Back d) e = refl
+
+-- the least give-back is, where nothing can be left either
+pub back_first : (x : Rank) (scripts : AllScripts) (act : Act) → IsNext x kind.Back None act → NoneAgree x → NoneNext x kind.Leave None → IsFirstChoice (x ∷ []) scripts (record { rank = 0; act = act })
+back_first x scripts (Call t op) n none leaves = absurd (true≢false (sym n.kind))
+back_first x scripts (Answer t) n none leaves = absurd (true≢false (sym n.kind))
+back_first x scripts (Settle key) n none leaves = absurd (true≢false (sym n.kind))
+back_first x scripts (MakeOffer key) n none leaves = absurd (true≢false (sym n.kind))
+back_first x scripts (Leave c) n none leaves = absurd (true≢false (sym n.kind))
+back_first x scripts (Back c) n none leaves = record {
+  may = record { enabled = n.enabled; scripted = tt };
+  least = λ d may. later d.rank d.act may.enabled;
+} where
+  later : (r : ℕ) (a : Act) → may_happen (x ∷ []) (record { rank = r; act = a }) ≡ true → is_no_later (x ∷ []) (record { rank = 0; act = Back c }) (record { rank = r; act = a }) ≡ true
+  later (suc r) a e = absurd (true≢false (sym e ∙ far x r a))
+  later zero (Call t op) e = refl
+  later zero (Answer t) e = absurd (no_answer x t none.answers e)
+  later zero (Settle l) e = absurd (no_settle x l none.settles e)
+  later zero (MakeOffer l) e = absurd (no_offer x l none.offers e)
+  later zero (Leave d) e = absurd (no_leave x d leaves e)
+  later zero (Back d) e = context_no_later c d (n.least (Back d) refl e refl)
 
 -- a thread that has no script calls nothing
 others_end : (scripts : AllScripts) (t : ℕ) → 1 ≤ t → IsSolo scripts → (calls : ℕ) → next_op scripts 0 t calls ≡ None
@@ -114,9 +174,11 @@ call_first x scripts act alone still n = subst (λ (a : Act). IsFirstChoice (x �
   later (suc r) a e s = absurd (true≢false (sym e ∙ far x r a))
   later zero (Call zero op) e s = refl
   later zero (Call (suc t) op) e s = grind (arith, nat_tests)
-  later zero (Answer t) e s = absurd (no_answer x t still.answers e)
-  later zero (Settle l) e s = absurd (no_settle x l still.settles e)
-  later zero (MakeOffer l) e s = absurd (no_offer x l still.offers e)
+  later zero (Answer t) e s = absurd (no_answer x t still.agree.answers e)
+  later zero (Settle l) e s = absurd (no_settle x l still.agree.settles e)
+  later zero (MakeOffer l) e s = absurd (no_offer x l still.agree.offers e)
+  later zero (Leave c) e s = absurd (no_leave x c still.leaves e)
+  later zero (Back c) e s = absurd (no_back x c still.backs e)
 
 some_same : {A : Type 0} {a b : A} → Some a ≡ Some b → a ≡ b
 some_same e = cc e
@@ -153,9 +215,11 @@ none_first x scripts job still none = record {
   calm : (r : ℕ) (a : Act) → is_call a ≡ false → may_happen (x ∷ []) (record { rank = r; act = a }) ≡ false
   calm (suc r) a e = far x r a
   calm zero (Call t op) e = absurd (true≢false e)
-  calm zero (Answer t) e = not_before _ (no_answer x t still.answers)
-  calm zero (Settle l) e = not_before _ (no_settle x l still.settles)
-  calm zero (MakeOffer l) e = not_before _ (no_offer x l still.offers)
+  calm zero (Answer t) e = not_before _ (no_answer x t still.agree.answers)
+  calm zero (Settle l) e = not_before _ (no_settle x l still.agree.settles)
+  calm zero (MakeOffer l) e = not_before _ (no_offer x l still.agree.offers)
+  calm zero (Leave c) e = not_before _ (no_leave x c still.leaves)
+  calm zero (Back c) e = not_before _ (no_back x c still.backs)
 
 -- what follows for each that is found
 pub if_some : {A : Type 0} {P Q : A → Type 0} (a : Option A) → ((x : A) → P x → Q x) → IfSome a P → IfSome a Q

@@ -45,7 +45,7 @@ is_usage ReadFault = false
 is_usage WriteFault = false
 is_usage Memory = false
 
--- the input was read whole
+-- the input was read as far as it may be read
 abbrev pub was_read : Status → Bool
 was_read Fine = true
 was_read Usage = false

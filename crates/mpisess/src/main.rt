@@ -33,6 +33,7 @@ that is neither blank nor one of
   pset NAME mpi://SELF -> NAME
   create NAME STRING -> NAME
   dup NAME -> NAME
+  free NAME
 each with one space between its words and none at its ends";
 
 const HELP: &str = "\
@@ -45,6 +46,7 @@ The lines of a script:
   pset NAME mpi://SELF -> NAME  makes the group of a process set
   create NAME STRING -> NAME    makes a communicator from a group and a string tag
   dup NAME -> NAME              duplicates a communicator
+  free NAME                     frees a communicator
 
 The process ends with 0 where the journal was written, 1 where the words were not understood, 2 where
 the script cannot be run, 4 or 5 where reading or writing failed, and 7 where no memory was left.";

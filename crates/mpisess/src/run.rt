@@ -52,6 +52,12 @@ fn next_act(state: &RankState<1>, scripts: &Scripts) -> Option<Act>
     if let Some(act) = state.next(StepKind::Offer, None) {
         return Some(act);
     }
+    if let Some(act) = state.next(StepKind::Leave, None) {
+        return Some(act);
+    }
+    if let Some(act) = state.next(StepKind::Back, None) {
+        return Some(act);
+    }
     next_call(state, scripts)
 }
 
@@ -98,5 +104,7 @@ fn make(state: &mut RankState<1>, act: Act) -> Entry
         Act::Answer { thread } => state.answer(thread),
         Act::Offer { key } => state.offer(key),
         Act::Settle { key } => state.settle(key),
+        Act::Leave { ctx } => state.leave(ctx),
+        Act::Back { ctx } => state.back(ctx),
     }
 }

@@ -130,7 +130,7 @@ impl From<OutOfMemory> for Status {
 ///
 /// The script has at most 4,194,304 bytes and 4,096 lines; the world has one rank and 63 contexts. Its
 /// operations are those of the Sessions model (MPI 4.0, 11.3): sessions, the groups of process sets,
-/// communicators from groups, and duplicates of communicators (MPI 4.0, 7.4.2). The source is read to its end before anything is run, and the sink is
+/// communicators from groups, duplicates of communicators (MPI 4.0, 7.4.2) and their end (7.4.3). The source is read to its end before anything is run, and the sink is
 /// written when the run is over. The status tells how it ended; `Memory` alone is tied to no cause. Of
 /// a source or a sink that does not tell its bytes no clause about bytes says anything.
 pub fn mpisess_calm<S: Source, K: Sink>(

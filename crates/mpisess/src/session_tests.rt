@@ -117,6 +117,53 @@ fn a_duplicate_adds_its_five_lines(rt: HostRuntime) -> Result<(), Fail> {
 }
 
 #[test]
+fn a_freed_context_is_used_again(rt: HostRuntime) -> Result<(), Fail> {
+    let alloc = rt.alloc();
+    let mut script = SCRIPT.to_vec(alloc)?;
+    script.extend_from_slice(b"dup c -> d\nfree c\ncreate g \"b\" -> e\n")?;
+    let mut journal = JOURNAL.to_vec(alloc)?;
+    journal.extend_from_slice(
+        b"\
+0 call 0 dup c -> d
+0 settle dup 1 0 [0] # ready
+0 offer dup 1 0 [0] # own
+0 settle dup 1 0 [0] # pick ctx=2
+0 answer 0 => comm ctx=2 rank=0 size=1
+0 call 0 free c
+0 leave 1
+0 back 1 # drop 0
+0 answer 0 => ok
+0 call 0 create g \"b\" -> e
+0 settle from \"b\" [0] # ready
+0 offer from \"b\" [0] # own
+0 settle from \"b\" [0] # pick ctx=1
+0 answer 0 => comm ctx=1 rank=0 size=1
+",
+    )?;
+    let mut sink = sink(alloc, 7, None)?;
+    assert_eq!(rt; solo(alloc, &script, &mut sink)?.status, Status::Fine);
+    assert_eq!(rt; sink.bytes(), journal.as_slice());
+    Ok(())
+}
+
+#[test]
+fn a_free_of_no_communicator_is_refused(rt: HostRuntime) -> Result<(), Fail> {
+    let mut sink = sink(rt.alloc(), 7, None)?;
+    let script = b"session s\npset s mpi://SELF -> g\nfree g\n";
+    assert_eq!(rt; solo(rt.alloc(), script, &mut sink)?.status, Status::Fine);
+    assert_eq!(rt;
+        sink.bytes(),
+        b"\
+0 call 0 session s => ok
+0 call 0 pset s mpi://SELF -> g => group [0]
+0 call 0 free g => err MPI_ERR_COMM
+"
+            .as_slice()
+    );
+    Ok(())
+}
+
+#[test]
 fn a_duplicate_of_no_communicator_is_refused(rt: HostRuntime) -> Result<(), Fail> {
     let mut sink = sink(rt.alloc(), 7, None)?;
     assert_eq!(rt;

@@ -113,6 +113,7 @@ fn a_journal_has_a_line_for_each_entry(rt: HostRuntime) -> Result<(), Fail> {
                 },
             },
             said: None,
+            dropped: None,
             reply: Some(Reply::Fine),
         },
         Entry {
@@ -121,6 +122,7 @@ fn a_journal_has_a_line_for_each_entry(rt: HostRuntime) -> Result<(), Fail> {
                 act: Act::Answer { thread: 0 },
             },
             said: None,
+            dropped: None,
             reply: Some(Reply::Null),
         },
     ];

@@ -1,5 +1,5 @@
 -- What an answer does.
-use Rattle.std.proofs.Common.{◌≡◌, ℕ, ◌<◌, true, List, Option, Some, None, refl, ap, ◌∙◌, arith}
+use Rattle.std.proofs.Common.{◌≡◌, ℕ, ◌<◌, true, List, Option, Some, None, refl, ap, ◌∙◌, inl, inr, ◌⊎◌, arith}
 use Rattle.std.proofs.lemmas.Bool.Decides.{nat_tests}
 use Rattle.mpi_base.specs.declared.keys.Key.{Key}
 use Rattle.mpi_base.specs.declared.entries.Act.TheVariants.{Answer}
@@ -8,7 +8,8 @@ use Rattle.mpi_protocol.specs.declared.rows.Outcome.{Outcome}
 use Rattle.mpi_protocol.specs.declared.rows.Outcome.TheVariants as outcome
 use Rattle.mpi_protocol.specs.declared.rows.Stage.{Stage}
 use Rattle.mpi_protocol.specs.declared.rows.Stage.TheVariants.{Called, Waiting, Offered, Done}
-use Rattle.mpi_protocol.specs.declared.rows.Waits.TheVariants.{Nothing, Creation}
+use Rattle.mpi_protocol.specs.declared.rows.Waits.{Waits}
+use Rattle.mpi_protocol.specs.declared.rows.Waits.TheVariants.{Nothing, Creation, Freeing}
 use Rattle.mpi_protocol.specs.Rank.{Rank, stage_of, thread_at, close_creation}
 use Rattle.mpi_protocol.specs.Step.{Move, step, is_enabled, is_answerable, is_done, ended, with_thread}
 use Rattle.mpi_protocol.specs.declared.rows.CreationRow.{CreationRow}
@@ -26,9 +27,10 @@ pub answer-waits : (x : Rank) (t : ℕ) → is_enabled x (Answer t) ≡ true →
 unfolding is_enabled
 answer-waits x t e = grind (arith, nat_tests, e)
 
--- a thread that waits for nothing is not answered
-pub answer-nothing : (x : Rank) (t : ℕ) → is_enabled x (Answer t) ≡ true → (thread_at x t).waits ≡ Nothing → ⊥
-answer-nothing x t e w = let a = rw w at (answer-waits x t e) in absurd (cc)
+-- a thread that waits for nothing, or until a context is given back, is not answered
+pub answer-never : (x : Rank) (t : ℕ) (w : Waits) → is_enabled x (Answer t) ≡ true → (thread_at x t).waits ≡ w → (w ≡ Nothing) ⊎ ((c : ℕ) × (w ≡ Freeing c)) → ⊥
+answer-never x t w e is (inl n) = let a = rw (is ∙ n) at (answer-waits x t e) in absurd (cc)
+answer-never x t w e is (inr f) = let a = rw (is ∙ f.1) at (answer-waits x t e) in absurd (cc)
 
 -- a thread that is answered waits for a creation that is done
 pub answer-done : (x : Rank) (t : ℕ) (key : Key) (target : List ℕ) (session : ℕ) → is_enabled x (Answer t) ≡ true → (thread_at x t).waits ≡ Creation key target session
@@ -61,6 +63,7 @@ ended_with x t key target session o =
         threads = with_thread x t (record { calls = (thread_at x t).calls; waits = Nothing });
       };
       said = None;
+      dropped = None;
       reply = Some (reply_of x.rank key.members o);
     }
 

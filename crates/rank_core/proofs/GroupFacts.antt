@@ -1,12 +1,14 @@
 -- Groups and the ranks in them.
-use Rattle.std.proofs.Common.{◌≡◌, ℕ, true, false, ◌==◌, not, List, [], ◌∷◌, bytes_eq, length, refl, ap, arith}
-use Rattle.std.specs.Prelude.{is_none, position}
+use Rattle.std.proofs.Common.{◌≡◌, ℕ, ◌+◌, zero, suc, true, false, ◌==◌, ◌&&◌, not, List, [], ◌∷◌, bytes_eq, length, refl, ◌∙◌, ap, add-one, arith}
+use Rattle.std.specs.Prelude.{is_none, position, slice_get}
+use Rattle.std.specs.List.{list_all, range_with_len}
 use Rattle.std.proofs.lemmas.Bool.Decides.{nat_tests}
 use Rattle.mpi_base.specs.MemberLists.{has_rank}
 use Rattle.mpi_base.proofs.KeyFacts.{same_bytes}
 use Rattle.mpi_law.specs.Local.{Local, call_pset, lacks}
 use Rattle.mpi_law.specs.ScriptLists.{self_set}
 use Rattle.mpi_law.specs.declared.setting.Setting.{Setting}
+use Rattle.rank_core.specs.Frees.{is_rank}
 
 -- a rank without a place in a list is not in it
 pub is_none-position : (members : List ℕ) (rank : ℕ) → is_none (position (λ m. m == rank) members) ≡ not (has_rank members rank)
@@ -21,3 +23,17 @@ lacks-some members rank e = let p = is_none-position members rank in grind (arit
 pub call_pset-built : (s : Setting) (rank : ℕ) (l : Local) (session set target : List ℕ) → bytes_eq set self_set ≡ true
     → call_pset s rank l session set target ≡ call_pset s rank l session self_set target
 call_pset-built s rank l session set target e = ap (λ x. call_pset s rank l session x target) (same_bytes set self_set e)
+
+-- a member in a list with one more before it has the next place
+later-members : (members : List ℕ) (m rank a n : ℕ)
+    → list_all (λ p. is_rank rank (slice_get (m ∷ members) p)) (range_with_len (a + 1) n) ≡ list_all (λ p. is_rank rank (slice_get members p)) (range_with_len a n)
+later-members members m rank a zero = refl
+later-members members m rank a (suc n) =
+    let ih = later-members members m rank (a + 1) n in
+    let next : slice_get (m ∷ members) (a + 1) ≡ slice_get members a = rw add-one refl in
+    rw (next, ih) refl
+
+-- all places have this rank where all members are
+pub all_places : (members : List ℕ) (rank : ℕ) → list_all (λ p. is_rank rank (slice_get members p)) (range_with_len 0 (length members)) ≡ list_all (λ q. q == rank) members
+all_places [] rank = refl
+all_places (m ∷ members) rank = ap (λ b. (m == rank) && b) (later-members members m rank 0 (length members) ∙ all_places members rank)

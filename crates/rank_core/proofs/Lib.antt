@@ -1,3 +1,4 @@
+pub mod CommFacts
 pub mod FrontFacts
 pub mod NameFacts
 pub mod GroupFacts

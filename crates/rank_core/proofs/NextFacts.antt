@@ -9,8 +9,9 @@ use Rattle.mpi_base.specs.declared.keys.Key.{Key}
 use Rattle.mpi_base.specs.Keys.{same_key, key_before}
 use Rattle.mpi_base.proofs.KeyFacts.{same_key_is, key_before_trans, key_before_irreflexive}
 use Rattle.mpi_base.specs.declared.entries.Act.{Act}
-use Rattle.mpi_base.specs.declared.entries.Act.TheVariants.{Call, Answer, Offer as MakeOffer, Settle}
+use Rattle.mpi_base.specs.declared.entries.Act.TheVariants.{Call, Answer, Offer as MakeOffer, Settle, Leave, Back}
 use Rattle.mpi_law.specs.declared.setting.TheConstants.{THREADS}
+use Rattle.mpi_protocol.specs.declared.rows.CommRow.{CommRow}
 use Rattle.mpi_protocol.specs.declared.rows.CreationRow.{CreationRow}
 use Rattle.mpi_protocol.specs.Rank.{Rank, Offer, stage_of}
 use Rattle.mpi_protocol.specs.Agreement.{has_offer, is_ready}
@@ -18,58 +19,68 @@ use Rattle.mpi_protocol.specs.Step.{is_enabled, is_due}
 use Rattle.rank_core.specs.declared.next.StepKind.TheVariants as kind
 use Rattle.rank_core.specs.declared.offers.OfferRow.{OfferRow}
 use Rattle.rank_core.specs.Offers.{offer_of}
-use Rattle.rank_core.specs.Next.{is_above, is_answer, is_offer, is_settle, act_before, IsNext, NoneNext, lesser, IsLeastKey}
+use Rattle.rank_core.specs.Next.{is_above, is_answer, is_offer, is_settle, is_leave, is_back, act_before, IsNext, NoneNext, lesser_by, lesser, lesser_context, IsLeastBy, IsLeastKey, IsLeastContext}
 use Rattle.rank_core.proofs.AnswerFacts.{answer-thread}
+use Rattle.rank_core.proofs.CommFacts.{all-push, leave-context, back-context}
 use Rattle.rank_core.proofs.OfferFacts.{find-range_found, find-range_none}
-
--- one more element of which it holds
-all-push : {X : Type 0} (P : X → Type 0) (xs : List X) (x : X) → AllByRecursion P xs → P x → AllByRecursion P (xs ++ x ∷ [])
-all-push P [] x a p = (p, tt)
-all-push P (y ∷ xs) x a p = (a.0, all-push P xs x a.1 p)
 
 -- what holds of each element, weakened
 all-weaker : {X : Type 0} (P Q : X → Type 0) → ((x : X) → P x → Q x) → (xs : List X) → AllByRecursion P xs → AllByRecursion Q xs
 all-weaker P Q f [] a = tt
 all-weaker P Q f (x ∷ xs) a = (f x a.0, all-weaker P Q f xs a.1)
 
--- a key that comes before another one is not after what does not come before that one
-before-less : (k l m : Key) → key_before k l ≡ true → key_before m l ≡ false → key_before m k ≡ false
-before-less k l m kl ml = go (key_before m k) refl
-  where
-    go : (b : Bool) → key_before m k ≡ b → b ≡ false
-    go true e = let t = key_before_trans m k l e kl in absurd (cc)
-    go false e = refl
+module _ {A : Type 0} (before : A → A → Bool) (trans : (k l m : A) → before k l ≡ true → before l m ≡ true → before k m ≡ true) (irreflexive : (k : A) → before k k ≡ false) where
+  -- what comes before another is not after what does not come before that other
+  before-less : (k l m : A) → before k l ≡ true → before m l ≡ false → before m k ≡ false
+  before-less k l m kl ml = go (before m k) refl
+    where
+      go : (b : Bool) → before m k ≡ b → b ≡ false
+      go true e = let t = trans m k l e kl in absurd (cc)
+      go false e = refl
 
--- the least key with one more
-pub IsLeastKey-more : (test : Key → Bool) (keys : List Key) (o : Option Key) (k : Key) → IsLeastKey test keys o → IsLeastKey test (keys ++ k ∷ []) (if test k then lesser k o else o)
-IsLeastKey-more test keys None k h = go (test k) refl
-  where
-    go : (b : Bool) → test k ≡ b → IsLeastKey test (keys ++ k ∷ []) (if b then Some k else None)
-    go true e = (
-      e,
-      all-push (λ m. test m ≡ true → key_before m k ≡ false) keys k
-          (all-weaker (λ m. test m ≡ false) (λ m. test m ≡ true → key_before m k ≡ false) (λ m f t. absurd (cc (f, t))) keys h) (λ t. key_before_irreflexive k),
-    )
-    go false e = all-push (λ m. test m ≡ false) keys k h e
-IsLeastKey-more test keys (Some l) k h = go (test k) refl (key_before k l) refl
-  where
-    go : (b : Bool) → test k ≡ b → (c : Bool) → key_before k l ≡ c → IsLeastKey test (keys ++ k ∷ []) (if b then (if c then Some k else Some l) else Some l)
-    go true e true f = (
-      e,
-      all-push (λ m. test m ≡ true → key_before m k ≡ false) keys k
-          (all-weaker (λ m. test m ≡ true → key_before m l ≡ false) (λ m. test m ≡ true → key_before m k ≡ false) (λ m n t. before-less k l m f (n t)) keys h.1) (λ t. key_before_irreflexive k),
-    )
-    go true e false f = (h.0, all-push (λ m. test m ≡ true → key_before m l ≡ false) keys k h.1 (λ t. f))
-    go false e c f = (h.0, all-push (λ m. test m ≡ true → key_before m l ≡ false) keys k h.1 (λ t. absurd (cc (e, t))))
+  -- the least with one more
+  IsLeastBy-more : (test : A → Bool) (all : List A) (o : Option A) (k : A) → IsLeastBy before test all o → IsLeastBy before test (all ++ k ∷ []) (if test k then lesser_by before k o else o)
+  IsLeastBy-more test all None k h = go (test k) refl
+    where
+      go : (b : Bool) → test k ≡ b → IsLeastBy before test (all ++ k ∷ []) (if b then Some k else None)
+      go true e = (
+        e,
+        all-push (λ m. test m ≡ true → before m k ≡ false) all k
+            (all-weaker (λ m. test m ≡ false) (λ m. test m ≡ true → before m k ≡ false) (λ m f t. absurd (cc (f, t))) all h) (λ t. irreflexive k),
+      )
+      go false e = all-push (λ m. test m ≡ false) all k h e
+  IsLeastBy-more test all (Some l) k h = go (test k) refl (before k l) refl
+    where
+      go : (b : Bool) → test k ≡ b → (c : Bool) → before k l ≡ c → IsLeastBy before test (all ++ k ∷ []) (if b then (if c then Some k else Some l) else Some l)
+      go true e true f = (
+        e,
+        all-push (λ m. test m ≡ true → before m k ≡ false) all k
+            (all-weaker (λ m. test m ≡ true → before m l ≡ false) (λ m. test m ≡ true → before m k ≡ false) (λ m n t. before-less k l m f (n t)) all h.1) (λ t. irreflexive k),
+      )
+      go true e false f = (h.0, all-push (λ m. test m ≡ true → before m l ≡ false) all k h.1 (λ t. f))
+      go false e c f = (h.0, all-push (λ m. test m ≡ true → before m l ≡ false) all k h.1 (λ t. absurd (cc (e, t))))
+
+  -- the least of rows with one more
+  IsLeastBy-rows : {R : Type 0} (of : R → A) (test : A → Bool) (rows : List R) (i : ℕ) (row : R) (least r : Option A) (counts : Bool)
+      → i < length rows → row ≡ get_or rows i row → IsLeastBy before test (map of (take i rows)) least → counts ≡ test (of row) → r ≡ (if counts then lesser_by before (of row) least else least)
+      → IsLeastBy before test (map of (take (i + 1) rows)) r
+  IsLeastBy-rows {R} of test rows i row least r counts inside is h e f =
+      let more : map of (take (i + 1) rows) ≡ map of (take i rows) ++ of row ∷ [] =
+      map_more of rows i row inside ∙ ap (λ (x : R). map of (take i rows) ++ of x ∷ []) (sym is) in
+      rw (f, e, more) (IsLeastBy-more test (map of (take i rows)) least (of row) h)
 
 -- the least key of rows with one more
 pub IsLeastKey-rows : {R : Type 0} (key_of : R → Key) (test : Key → Bool) (rows : List R) (i : ℕ) (row : R) (least r : Option Key) (counts : Bool)
     → i < length rows → row ≡ get_or rows i row → IsLeastKey test (map key_of (take i rows)) least → counts ≡ test (key_of row) → r ≡ (if counts then lesser (key_of row) least else least)
     → IsLeastKey test (map key_of (take (i + 1) rows)) r
-IsLeastKey-rows {R} key_of test rows i row least r counts inside is h e f =
-    let more : map key_of (take (i + 1) rows) ≡ map key_of (take i rows) ++ key_of row ∷ [] =
-    map_more key_of rows i row inside ∙ ap (λ (x : R). map key_of (take i rows) ++ key_of x ∷ []) (sym is) in
-    rw (f, e, more) (IsLeastKey-more test (map key_of (take i rows)) least (key_of row) h)
+IsLeastKey-rows key_of test rows i row least r counts inside is h e f = IsLeastBy-rows key_before key_before_trans key_before_irreflexive key_of test rows i row least r counts inside is h e f
+
+-- the least context of rows with one more
+pub IsLeastContext-rows : (test : ℕ → Bool) (rows : List CommRow) (i : ℕ) (row : CommRow) (least r : Option ℕ) (counts : Bool)
+    → i < length rows → row ≡ get_or rows i row → IsLeastContext test (map (λ m. m.ctx) (take i rows)) least → counts ≡ test row.ctx → r ≡ (if counts then lesser_context row.ctx least else least)
+    → IsLeastContext test (map (λ m. m.ctx) (take (i + 1) rows)) r
+IsLeastContext-rows test rows i row least r counts inside is h e f =
+    IsLeastBy-rows nat_lt (λ k l m p q. grind (arith, nat_tests, p, q)) (λ k. grind (arith, nat_tests)) (λ (m : CommRow). m.ctx) test rows i row least r counts inside is h e f
 
 -- the keys of offers are those of their rows
 pub keys-rows : {w : ℕ} (contexts : ℕ) (rows : List (OfferRow w)) → map (λ (o : Offer). o.key) (map (offer_of contexts) rows) ≡ map (λ (r : OfferRow w). r.key) rows
@@ -126,6 +137,8 @@ module _ (x : Rank) (after : Option Act) where
           go false lt = refl
       least below (MakeOffer l) k en ab = absurd (cc)
       least below (Settle l) k en ab = absurd (cc)
+      least below (Leave c) k en ab = absurd (cc)
+      least below (Back c) k en ab = absurd (cc)
 
   -- where no thread passes, there is no next answer
   pub next_answer-none : find (λ t. is_above after (Answer t) && is_enabled x (Answer t)) (range_with_len 0 THREADS) ≡ None → NoneNext x kind.Answer after
@@ -134,6 +147,8 @@ module _ (x : Rank) (after : Option Act) where
       let f = find-range_none (λ t. is_above after (Answer t) && is_enabled x (Answer t)) 0 THREADS e u (omega arith) (answer-thread x u en) in grind (arith, f, en)
   next_answer-none e (MakeOffer l) k en = absurd (cc)
   next_answer-none e (Settle l) k en = absurd (cc)
+  next_answer-none e (Leave c) k en = absurd (cc)
+  next_answer-none e (Back c) k en = absurd (cc)
 
   -- the least key that passes is that of the next settle
   pub next_settle-found : (key : Key) → IsLeastKey (λ k. is_above after (Settle k) && is_enabled x (Settle k)) (map (λ o. o.key) x.gathered) (Some key) → IsNext x kind.Settle after (Settle key)
@@ -146,6 +161,8 @@ module _ (x : Rank) (after : Option Act) where
       least (MakeOffer l) k en ab = absurd (cc)
       least (Settle l) k en ab =
           settle-key (λ m. (is_above after (Settle m) && is_enabled x (Settle m)) ≡ true → key_before m key ≡ false) x l h.1 en (grind (arith, en, ab))
+      least (Leave c) k en ab = absurd (cc)
+      least (Back c) k en ab = absurd (cc)
 
   -- where no key passes, there is no next settle
   pub next_settle-none : IsLeastKey (λ k. is_above after (Settle k) && is_enabled x (Settle k)) (map (λ o. o.key) x.gathered) None → NoneNext x kind.Settle after
@@ -154,6 +171,8 @@ module _ (x : Rank) (after : Option Act) where
   next_settle-none h (MakeOffer l) k en = absurd (cc)
   next_settle-none h (Settle l) k en =
       let f = settle-key (λ m. (is_above after (Settle m) && is_enabled x (Settle m)) ≡ false) x l h en in grind (arith, f, en)
+  next_settle-none h (Leave c) k en = absurd (cc)
+  next_settle-none h (Back c) k en = absurd (cc)
 
   -- the least key that passes is that of the next offer
   pub next_offer-found : (key : Key) → IsLeastKey (λ k. is_above after (MakeOffer k) && is_enabled x (MakeOffer k)) (map (λ o. o.key) x.opened) (Some key) → IsNext x kind.Offer after (MakeOffer key)
@@ -166,6 +185,8 @@ module _ (x : Rank) (after : Option Act) where
       least (MakeOffer l) k en ab =
           offer-key (λ m. (is_above after (MakeOffer m) && is_enabled x (MakeOffer m)) ≡ true → key_before m key ≡ false) x l h.1 en (grind (arith, en, ab))
       least (Settle l) k en ab = absurd (cc)
+      least (Leave c) k en ab = absurd (cc)
+      least (Back c) k en ab = absurd (cc)
 
   -- where no key passes, there is no next offer
   pub next_offer-none : IsLeastKey (λ k. is_above after (MakeOffer k) && is_enabled x (MakeOffer k)) (map (λ o. o.key) x.opened) None → NoneNext x kind.Offer after
@@ -174,6 +195,56 @@ module _ (x : Rank) (after : Option Act) where
   next_offer-none h (MakeOffer l) k en =
       let f = offer-key (λ m. (is_above after (MakeOffer m) && is_enabled x (MakeOffer m)) ≡ false) x l h en in grind (arith, f, en)
   next_offer-none h (Settle l) k en = absurd (cc)
+  next_offer-none h (Leave c) k en = absurd (cc)
+  next_offer-none h (Back c) k en = absurd (cc)
+
+  -- the least context that passes is that of the next leave
+  pub next_leave-found : (c : ℕ) → IsLeastContext (λ d. is_above after (Leave d) && is_enabled x (Leave d)) (map (λ m. m.ctx) x.comms) (Some c) → IsNext x kind.Leave after (Leave c)
+  next_leave-found c h =
+      let passes = h.0 in record { kind = refl; enabled = grind (arith, passes); above = grind (arith, passes); least = least }
+    where
+      least : (b : Act) → is_leave b ≡ true → is_enabled x b ≡ true → is_above after b ≡ true → act_before b (Leave c) ≡ false
+      least (Call u op) k en ab = absurd (cc)
+      least (Answer u) k en ab = absurd (cc)
+      least (MakeOffer l) k en ab = absurd (cc)
+      least (Settle l) k en ab = absurd (cc)
+      least (Leave d) k en ab =
+          leave-context (λ m. (is_above after (Leave m) && is_enabled x (Leave m)) ≡ true → nat_lt m c ≡ false) x d h.1 en (grind (arith, en, ab))
+      least (Back d) k en ab = absurd (cc)
+
+  -- where no context passes, there is no next leave
+  pub next_leave-none : IsLeastContext (λ d. is_above after (Leave d) && is_enabled x (Leave d)) (map (λ m. m.ctx) x.comms) None → NoneNext x kind.Leave after
+  next_leave-none h (Call u op) k en = absurd (cc)
+  next_leave-none h (Answer u) k en = absurd (cc)
+  next_leave-none h (MakeOffer l) k en = absurd (cc)
+  next_leave-none h (Settle l) k en = absurd (cc)
+  next_leave-none h (Leave d) k en =
+      let f = leave-context (λ m. (is_above after (Leave m) && is_enabled x (Leave m)) ≡ false) x d h en in grind (arith, f, en)
+  next_leave-none h (Back d) k en = absurd (cc)
+
+  -- the least context that passes is that of the next give-back
+  pub next_back-found : (c : ℕ) → IsLeastContext (λ d. is_above after (Back d) && is_enabled x (Back d)) (map (λ m. m.ctx) x.comms) (Some c) → IsNext x kind.Back after (Back c)
+  next_back-found c h =
+      let passes = h.0 in record { kind = refl; enabled = grind (arith, passes); above = grind (arith, passes); least = least }
+    where
+      least : (b : Act) → is_back b ≡ true → is_enabled x b ≡ true → is_above after b ≡ true → act_before b (Back c) ≡ false
+      least (Call u op) k en ab = absurd (cc)
+      least (Answer u) k en ab = absurd (cc)
+      least (MakeOffer l) k en ab = absurd (cc)
+      least (Settle l) k en ab = absurd (cc)
+      least (Leave d) k en ab = absurd (cc)
+      least (Back d) k en ab =
+          back-context (λ m. (is_above after (Back m) && is_enabled x (Back m)) ≡ true → nat_lt m c ≡ false) x d h.1 en (grind (arith, en, ab))
+
+  -- where no context passes, there is no next give-back
+  pub next_back-none : IsLeastContext (λ d. is_above after (Back d) && is_enabled x (Back d)) (map (λ m. m.ctx) x.comms) None → NoneNext x kind.Back after
+  next_back-none h (Call u op) k en = absurd (cc)
+  next_back-none h (Answer u) k en = absurd (cc)
+  next_back-none h (MakeOffer l) k en = absurd (cc)
+  next_back-none h (Settle l) k en = absurd (cc)
+  next_back-none h (Leave d) k en = absurd (cc)
+  next_back-none h (Back d) k en =
+      let f = back-context (λ m. (is_above after (Back m) && is_enabled x (Back m)) ≡ false) x d h en in grind (arith, f, en)
 
   -- what comes of the first thread that passes
   pub next_answer-result : (o : Option ℕ) (r : Option Act) → o ≡ find (λ t. is_above after (Answer t) && is_enabled x (Answer t)) (range_with_len 0 THREADS) → r ≡ option_map (λ t. Answer t) o
@@ -192,3 +263,15 @@ module _ (x : Rank) (after : Option Act) where
       → IfSome r (IsNext x kind.Offer after) × IfNone r (NoneNext x kind.Offer after)
   next_offer-result None r e m = rw m (tt, next_offer-none e)
   next_offer-result (Some k) r e m = rw m (next_offer-found k e, tt)
+
+  -- what comes of the least context that may be left
+  pub next_leave-result : (o : Option ℕ) (r : Option Act) → IsLeastContext (λ d. is_above after (Leave d) && is_enabled x (Leave d)) (map (λ m. m.ctx) x.comms) o → r ≡ option_map (λ c. Leave c) o
+      → IfSome r (IsNext x kind.Leave after) × IfNone r (NoneNext x kind.Leave after)
+  next_leave-result None r e m = rw m (tt, next_leave-none e)
+  next_leave-result (Some c) r e m = rw m (next_leave-found c e, tt)
+
+  -- what comes of the least context that may be given back
+  pub next_back-result : (o : Option ℕ) (r : Option Act) → IsLeastContext (λ d. is_above after (Back d) && is_enabled x (Back d)) (map (λ m. m.ctx) x.comms) o → r ≡ option_map (λ c. Back c) o
+      → IfSome r (IsNext x kind.Back after) × IfNone r (NoneNext x kind.Back after)
+  next_back-result None r e m = rw m (tt, next_back-none e)
+  next_back-result (Some c) r e m = rw m (next_back-found c e, tt)

@@ -3,7 +3,7 @@ use Rattle.std.specs.Prelude.{◌+◌, Result, Ok, Err}
 use Rattle.mpi_base.specs.declared.errors.ErrClass.{ErrClass}
 use Rattle.mpi_base.specs.declared.ops.Reply.TheVariants as reply
 use Rattle.mpi_law.specs.declared.rows.Bound.TheVariants as bound
-use Rattle.mpi_law.specs.Local.{Local, Effect, Says, Origin, Grouped, Duplicated, bind, ask}
+use Rattle.mpi_law.specs.Local.{Local, Effect, Says, Frees, Origin, Grouped, Duplicated, bind, unbind, ask}
 use Rattle.rank_core.specs.declared.calls.Origin.{Origin as Source}
 use Rattle.rank_core.specs.declared.calls.Origin.TheVariants as source
 use Rattle.rank_core.specs.declared.calls.Plan.{Plan}
@@ -21,6 +21,7 @@ effect_by l (plan.Opens target) = Says (record { names = bind l.names target (bo
 effect_by l (plan.Groups target members session) =
     Says (record { names = bind l.names target (bound.Group members session); sessions = l.sessions }) (reply.Group members)
 effect_by l (plan.Joins a) = ask l (origin_of a.origin) a.target a.session
+effect_by l (plan.Frees comm ctx) = Frees (record { names = unbind l.names comm; sessions = l.sessions }) ctx
 
 -- the effect of a plan, or of a refusal
 abbrev pub effect_after : Local → Result Plan ErrClass → Effect

@@ -5,6 +5,7 @@ pub mod Gather
 pub mod Limits
 pub mod Rooms
 pub mod Effects
+pub mod Frees
 pub mod Entries
 pub mod Ends
 pub mod Verdicts

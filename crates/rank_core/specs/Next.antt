@@ -4,7 +4,7 @@ use Rattle.std.specs.List.{AllByRecursion}
 use Rattle.mpi_base.specs.declared.keys.Key.{Key}
 use Rattle.mpi_base.specs.Keys.{key_before}
 use Rattle.mpi_base.specs.declared.entries.Act.{Act}
-use Rattle.mpi_base.specs.declared.entries.Act.TheVariants.{Call, Answer, Offer as MakeOffer, Settle}
+use Rattle.mpi_base.specs.declared.entries.Act.TheVariants.{Call, Answer, Offer as MakeOffer, Settle, Leave, Back}
 use Rattle.mpi_protocol.specs.Rank.{Rank}
 use Rattle.mpi_protocol.specs.Step.{is_enabled}
 use Rattle.rank_core.specs.declared.next.StepKind.{StepKind}
@@ -16,6 +16,8 @@ is_answer (Call t op) = false
 is_answer (Answer t) = true
 is_answer (MakeOffer key) = false
 is_answer (Settle key) = false
+is_answer (Leave c) = false
+is_answer (Back c) = false
 
 -- the settle of a key
 abbrev pub is_settle : Act → Bool
@@ -23,6 +25,8 @@ is_settle (Call t op) = false
 is_settle (Answer t) = false
 is_settle (MakeOffer key) = false
 is_settle (Settle key) = true
+is_settle (Leave c) = false
+is_settle (Back c) = false
 
 -- the offer for a key
 abbrev pub is_offer : Act → Bool
@@ -30,12 +34,34 @@ is_offer (Call t op) = false
 is_offer (Answer t) = false
 is_offer (MakeOffer key) = true
 is_offer (Settle key) = false
+is_offer (Leave c) = false
+is_offer (Back c) = false
+
+-- the leave of a communicator
+abbrev pub is_leave : Act → Bool
+is_leave (Call t op) = false
+is_leave (Answer t) = false
+is_leave (MakeOffer key) = false
+is_leave (Settle key) = false
+is_leave (Leave c) = true
+is_leave (Back c) = false
+
+-- the give-back of a communicator
+abbrev pub is_back : Act → Bool
+is_back (Call t op) = false
+is_back (Answer t) = false
+is_back (MakeOffer key) = false
+is_back (Settle key) = false
+is_back (Leave c) = false
+is_back (Back c) = true
 
 -- whether a step is of a kind
 abbrev pub is_of_kind : StepKind → Act → Bool
 is_of_kind kind.Answer a = is_answer a
 is_of_kind kind.Settle a = is_settle a
 is_of_kind kind.Offer a = is_offer a
+is_of_kind kind.Leave a = is_leave a
+is_of_kind kind.Back a = is_back a
 
 -- whether a thread comes before that of an answer
 abbrev pub thread_before : ℕ → Act → Bool
@@ -43,6 +69,8 @@ thread_before t (Call u op) = false
 thread_before t (Answer u) = nat_lt t u
 thread_before t (MakeOffer l) = false
 thread_before t (Settle l) = false
+thread_before t (Leave d) = false
+thread_before t (Back d) = false
 
 -- whether a key comes before that of a settle
 abbrev pub settle_before : Key → Act → Bool
@@ -50,6 +78,8 @@ settle_before k (Call u op) = false
 settle_before k (Answer u) = false
 settle_before k (MakeOffer l) = false
 settle_before k (Settle l) = key_before k l
+settle_before k (Leave d) = false
+settle_before k (Back d) = false
 
 -- whether a key comes before that of an offer
 abbrev pub offer_before : Key → Act → Bool
@@ -57,13 +87,35 @@ offer_before k (Call u op) = false
 offer_before k (Answer u) = false
 offer_before k (MakeOffer l) = key_before k l
 offer_before k (Settle l) = false
+offer_before k (Leave d) = false
+offer_before k (Back d) = false
 
--- of two steps of one kind, whether the first comes first: by thread, or by key
+-- whether a context comes before that of a leave
+abbrev pub leave_before : ℕ → Act → Bool
+leave_before c (Call u op) = false
+leave_before c (Answer u) = false
+leave_before c (MakeOffer l) = false
+leave_before c (Settle l) = false
+leave_before c (Leave d) = nat_lt c d
+leave_before c (Back d) = false
+
+-- whether a context comes before that of a give-back
+abbrev pub back_before : ℕ → Act → Bool
+back_before c (Call u op) = false
+back_before c (Answer u) = false
+back_before c (MakeOffer l) = false
+back_before c (Settle l) = false
+back_before c (Leave d) = false
+back_before c (Back d) = nat_lt c d
+
+-- of two steps of one kind, whether the first comes first: by thread, by key, or by context
 abbrev pub act_before : Act → Act → Bool
 act_before (Call t op) b = false
 act_before (Answer t) b = thread_before t b
 act_before (MakeOffer k) b = offer_before k b
 act_before (Settle k) b = settle_before k b
+act_before (Leave c) b = leave_before c b
+act_before (Back c) b = back_before c b
 
 -- whether a step comes after one that may be there
 abbrev pub is_above : Option Act → Act → Bool
@@ -81,12 +133,24 @@ pub record IsNext (x : Rank) (wanted : StepKind) (after : Option Act) (a : Act) 
 abbrev pub NoneNext : Rank → StepKind → Option Act → Type 0
 NoneNext x wanted after = (a : Act) → is_of_kind wanted a ≡ true → is_enabled x a ≡ true → is_above after a ≡ false
 
--- the lesser of two keys, the second of which may be missing, where the first counts
-abbrev pub lesser : Key → Option Key → Option Key
-lesser k None = Some k
-lesser k (Some l) = if key_before k l then Some k else Some l
+-- the lesser of two in an order, the second of which may be missing, where the first counts
+abbrev pub lesser_by : {A : Type 0} → (A → A → Bool) → A → Option A → Option A
+lesser_by before k None = Some k
+lesser_by before k (Some l) = if before k l then Some k else Some l
 
--- the least of the keys that pass a test, if any does
+abbrev pub lesser : Key → Option Key → Option Key
+lesser = lesser_by key_before
+
+abbrev pub lesser_context : ℕ → Option ℕ → Option ℕ
+lesser_context = lesser_by nat_lt
+
+-- the least in an order of those that pass a test, if any does
+abbrev pub IsLeastBy : {A : Type 0} → (A → A → Bool) → (A → Bool) → List A → Option A → Type 0
+IsLeastBy before test all None = AllByRecursion (λ k. test k ≡ false) all
+IsLeastBy before test all (Some l) = (test l ≡ true) × AllByRecursion (λ k. test k ≡ true → before k l ≡ false) all
+
 abbrev pub IsLeastKey : (Key → Bool) → List Key → Option Key → Type 0
-IsLeastKey test keys None = AllByRecursion (λ k. test k ≡ false) keys
-IsLeastKey test keys (Some l) = (test l ≡ true) × AllByRecursion (λ k. test k ≡ true → key_before k l ≡ false) keys
+IsLeastKey = IsLeastBy key_before
+
+abbrev pub IsLeastContext : (ℕ → Bool) → List ℕ → Option ℕ → Type 0
+IsLeastContext = IsLeastBy nat_lt

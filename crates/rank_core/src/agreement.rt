@@ -104,7 +104,7 @@ impl<const W: usize> RankState<W> {
         own_mask(&mut self.owner, &key, own);
         set_stage(&mut self.opened, &key, Stage::Offered { round, own });
         gather(&mut self.gathered, self.rank, &key, own, mask);
-        self.entry(Act::Offer { key }, Some(offer_says(own)), None)
+        self.entry(Act::Offer { key }, Some(offer_says(own)), None, None)
     }
 
     /// Whether the offers of all members are there.
@@ -199,6 +199,6 @@ impl<const W: usize> RankState<W> {
         let round = self.round(&key);
         let verdict = self.verdict(&key, round);
         let said = self.settle_by(&key, round, verdict);
-        self.entry(Act::Settle { key }, Some(said), None)
+        self.entry(Act::Settle { key }, Some(said), None, None)
     }
 }

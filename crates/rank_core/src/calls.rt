@@ -1,6 +1,6 @@
 //! Calls and answers.
 ghost use Rattle.std.specs.Prelude.{◌≡◌, ◌≤◌, ◌<◌, ◌+◌, ◌-◌, ◌^◌, true, [], All, IfOk, IfErr};
-ghost use Rattle.mpi_law.specs.Local.{as_session, as_group, bound_of, call_session, call_pset, call_create, call_dup, as_comm, effect_of, lacks as lacks_rank, refusal};
+ghost use Rattle.mpi_law.specs.Local.{as_session, as_group, bound_of, call_session, call_pset, call_create, call_dup, call_free, as_comm, effect_of, lacks as lacks_rank, refusal};
 ghost use Rattle.mpi_law.specs.ScriptLists.{is_built, self_set};
 ghost use Rattle.mpi_protocol.specs.Rank.{stage_of, thread_at};
 ghost use Rattle.mpi_protocol.specs.Step.{Steps, is_enabled, is_open_here, key_from as key_of_group, key_on as key_of_comm, key_of, counted, called};
@@ -10,13 +10,14 @@ ghost use Rattle.rank_core.specs.Ends.{names_after, outcome_of, reply_of};
 use crate::offers::{gather, place_in};
 use crate::rank::RankState;
 use crate::rows::{
-    bind, bind_comm, close_creation, count_call, count_creation, free_name, take_waits,
+    bind, bind_comm, close_creation, count_call, count_creation, free_name, set_comm_stage,
+    take_waits,
 };
 use mpi_base::{
     Act, Choice, Entry, ErrClass, Key, Kind, Members, Name, Op, Reply, Said, StringTag,
 };
 use mpi_law::{Bound, THREADS};
-use mpi_protocol::{CreationRow, Outcome, Stage, Waits};
+use mpi_protocol::{CommStage, CreationRow, Outcome, Stage, Waits};
 
 /// What a new communicator comes from.
 #[derive(Drop)]
@@ -56,6 +57,13 @@ enum Plan {
     },
     /// Join a creation and wait.
     Joins(Asked),
+    /// Free a communicator and wait until it is given back.
+    Frees {
+        /// The name that is bound to it.
+        comm: Name,
+        /// Its context.
+        ctx: u16,
+    },
 }
 
 /// The key of a creation from a group.
@@ -192,6 +200,17 @@ impl<const W: usize> RankState<W> {
         }))
     }
 
+    /// Frees a communicator.
+    fn free(&self, comm: &Name) -> Result<Plan, ErrClass>
+        ensures { effect_after self.now.state.local result ≡ refusal self.now.state.local (call_free self.now.state.local comm.now) }
+    {
+        let (ctx, _) = self.comm_named(comm)?;
+        Ok(Plan::Frees {
+            comm: comm.copy(),
+            ctx,
+        })
+    }
+
     /// What an operation is to do, or why it is refused. The one process set that may be asked for yet
     /// is `mpi://SELF`.
     #[tactic(auto, unfolding(mpi_law::specs::Local::effect_of))]
@@ -204,6 +223,7 @@ impl<const W: usize> RankState<W> {
             Op::Pset(session, _, target) => self.self_group(session, target),
             Op::Create(group, tag, target) => self.create(group, tag, target),
             Op::Dup(comm, target) => self.dup(comm, target),
+            Op::Free(comm) => self.free(comm),
         }
     }
 
@@ -275,6 +295,19 @@ impl<const W: usize> RankState<W> {
         count_call(&mut self.threads, thread, waits);
     }
 
+    /// Frees a communicator: the name is bound no longer, and the thread waits until the context is
+    /// given back.
+    fn free_comm(&mut self, thread: u8, comm: &Name, ctx: u16)
+        requires thread { thread < THREADS }
+        requires calls { (thread_at self.old.state thread).calls < 2 ^ 64 - 1 }
+        ensures state { self.new.state ≡ (called self.old.state thread (effect_by self.old.state.local (Plan.Frees comm.now ctx))).state }
+        ensures spare { self.old.spare ≤ self.new.spare }
+    {
+        free_name(&mut self.names, comm);
+        set_comm_stage(&mut self.comms, ctx, CommStage::Freed);
+        count_call(&mut self.threads, thread, Waits::Freeing { ctx });
+    }
+
     /// Carries a plan out, and gives the reply, if it comes at once.
     fn carry_out(&mut self, thread: u8, plan: Plan) -> Option<Reply>
         requires thread { thread < THREADS }
@@ -311,12 +344,22 @@ impl<const W: usize> RankState<W> {
                 self.join(thread, asked);
                 None
             }
+            Plan::Frees { comm, ctx } => {
+                self.free_comm(thread, &comm, ctx);
+                None
+            }
         }
     }
 
     /// The line of a step of this rank.
-    pub(crate) fn entry(&self, act: Act, said: Option<Said>, reply: Option<Reply>) -> Entry
-        ensures { result ≡ record { choice = record { rank = self.now.state.rank; act = act }; said = said; reply = reply } }
+    pub(crate) fn entry(
+        &self,
+        act: Act,
+        said: Option<Said>,
+        dropped: Option<u64>,
+        reply: Option<Reply>,
+    ) -> Entry
+        ensures { result ≡ record { choice = record { rank = self.now.state.rank; act = act }; said = said; dropped = dropped; reply = reply } }
     {
         Entry {
             choice: Choice {
@@ -324,6 +367,7 @@ impl<const W: usize> RankState<W> {
                 act,
             },
             said,
+            dropped,
             reply,
         }
     }
@@ -342,7 +386,7 @@ impl<const W: usize> RankState<W> {
     {
         let plan = self.plan(&op);
         let reply = self.carry_out(thread, plan);
-        self.entry(Act::Call { thread, op }, None, reply)
+        self.entry(Act::Call { thread, op }, None, None, reply)
     }
 
     /// What came of a creation; None where it is not decided.
@@ -377,7 +421,8 @@ impl<const W: usize> RankState<W> {
         }
     }
 
-    /// A thread whose creation is decided is answered. The answer is enabled.
+    /// A thread is answered whose creation is decided, or whose communicator is given back. The answer
+    /// is enabled.
     #[tactic(auto, unfolding(mpi_protocol::specs::Step::is_enabled, mpi_protocol::specs::Step::step))]
     pub fn answer(&mut self, thread: u8) -> Entry
         requires enabled { is_enabled self.old.state (Act.Answer thread) ≡ true }
@@ -385,19 +430,21 @@ impl<const W: usize> RankState<W> {
         ensures step { Steps self.old.state (Act.Answer thread) self.new.state result }
         ensures spare { self.old.spare ≤ self.new.spare + 1 }
     {
-        let Waits::Creation {
-            key,
-            target,
-            session,
-        } = take_waits(&mut self.threads, thread)
-        else {
-            unreachable!()
-        };
-        let Some(outcome) = self.outcome(&key) else {
-            unreachable!()
-        };
-        close_creation(&mut self.opened, &key);
-        let reply = self.end(&key, &target, session, outcome);
-        self.entry(Act::Answer { thread }, None, Some(reply))
+        match take_waits(&mut self.threads, thread) {
+            Waits::Creation {
+                key,
+                target,
+                session,
+            } => {
+                let Some(outcome) = self.outcome(&key) else {
+                    unreachable!()
+                };
+                close_creation(&mut self.opened, &key);
+                let reply = self.end(&key, &target, session, outcome);
+                self.entry(Act::Answer { thread }, None, None, Some(reply))
+            }
+            Waits::Returned => self.entry(Act::Answer { thread }, None, None, Some(Reply::Fine)),
+            Waits::Nothing | Waits::Freeing { .. } => unreachable!(),
+        }
     }
 }

@@ -3,6 +3,7 @@
 
 mod agreement;
 mod calls;
+mod frees;
 mod journal;
 mod next;
 mod offers;

@@ -5,7 +5,7 @@ ghost use Rattle.std.specs.List.{range_with_len};
 ghost use Rattle.mpi_protocol.specs.Order.{is_offered as is_offered_at};
 ghost use Rattle.mpi_protocol.specs.Rank.{is_idle as is_idle_at, stage_of};
 ghost use Rattle.mpi_protocol.specs.Step.{is_answerable as is_answerable_at, is_enabled};
-ghost use Rattle.rank_core.specs.Next.{is_of_kind, is_above, IsNext, NoneNext, lesser, IsLeastKey};
+ghost use Rattle.rank_core.specs.Next.{is_of_kind, is_above, IsNext, NoneNext, lesser, lesser_context, IsLeastKey, IsLeastContext};
 
 use crate::offers::is_first;
 use crate::rank::RankState;
@@ -22,6 +22,10 @@ pub enum StepKind {
     Settle,
     /// An offer is made; in the order of keys.
     Offer,
+    /// A communicator is left; in the order of contexts.
+    Leave,
+    /// A communicator is given back; in the order of contexts.
+    Back,
 }
 
 /// Whether a thread that waits for this waits for nothing.
@@ -64,6 +68,28 @@ fn is_offer_above(after: Option<&Act>, key: &Key) -> bool
     }
 }
 
+/// Whether the leave of a context comes after a step.
+fn is_leave_above(after: Option<&Act>, ctx: u16) -> bool
+    ensures { result ≡ is_above (option_copied after.entry) (Act.Leave ctx) }
+{
+    match after {
+        None => true,
+        Some(Act::Leave { ctx: last }) => *last < ctx,
+        Some(_) => false,
+    }
+}
+
+/// Whether the give-back of a context comes after a step.
+fn is_back_above(after: Option<&Act>, ctx: u16) -> bool
+    ensures { result ≡ is_above (option_copied after.entry) (Act.Back ctx) }
+{
+    match after {
+        None => true,
+        Some(Act::Back { ctx: last }) => *last < ctx,
+        Some(_) => false,
+    }
+}
+
 /// The lesser of a key that counts and one that may be there.
 fn keep_least(least: Option<Key>, key: &Key, counts: bool) -> Option<Key>
     ensures { result ≡ (if counts then lesser key.now least else least) }
@@ -78,6 +104,19 @@ fn keep_least(least: Option<Key>, key: &Key, counts: bool) -> Option<Key>
             known
         }),
         None => Some(key.copy()),
+    }
+}
+
+/// The lesser of a context that counts and one that may be there.
+fn keep_lowest(lowest: Option<u16>, ctx: u16, counts: bool) -> Option<u16>
+    ensures { result ≡ (if counts then lesser_context ctx lowest else lowest) }
+{
+    if !counts {
+        return lowest;
+    }
+    match lowest {
+        Some(known) => Some(if ctx < known { ctx } else { known }),
+        None => Some(ctx),
     }
 }
 
@@ -108,8 +147,9 @@ impl<const W: usize> RankState<W> {
         ensures { result ≡ is_answerable_at self.now.state waits.now }
     {
         match waits {
-            Waits::Nothing => false,
+            Waits::Nothing | Waits::Freeing { .. } => false,
             Waits::Creation { key, .. } => matches!(self.stage(key), Some(Stage::Done(_))),
+            Waits::Returned => true,
         }
     }
 
@@ -136,6 +176,8 @@ impl<const W: usize> RankState<W> {
             Act::Answer { thread } => self.can_answer(*thread),
             Act::Offer { key } => self.can_offer(key),
             Act::Settle { key } => self.can_settle(key),
+            Act::Leave { ctx } => self.can_leave(*ctx),
+            Act::Back { ctx } => self.can_give_back(*ctx),
         }
     }
 
@@ -195,8 +237,44 @@ impl<const W: usize> RankState<W> {
         least
     }
 
-    /// The first enabled step of a kind, in the order of threads or of keys, that comes after
-    /// `after`, or the first of all where `after` is None. `after` is of that kind.
+    /// Whether a communicator may be left, and that comes after a step.
+    fn leaves_above(&self, after: Option<&Act>, ctx: u16) -> bool
+        ensures { result ≡ (is_above (option_copied after.entry) (Act.Leave ctx) && is_enabled self.now.state (Act.Leave ctx)) }
+    {
+        is_leave_above(after, ctx) && self.can_leave(ctx)
+    }
+
+    /// The least context after a step whose communicator may be left.
+    fn next_leave(&self, after: Option<&Act>) -> Option<u16>
+        ensures { IsLeastContext (λ c. is_above (option_copied after.entry) (Act.Leave c) && is_enabled self.now.state (Act.Leave c)) (map (λ m. m.ctx) self.now.state.comms) result }
+    {
+        let mut lowest = None;
+        for row in self.comms.iter() {
+            lowest = keep_lowest(lowest, row.ctx, self.leaves_above(after, row.ctx));
+        }
+        lowest
+    }
+
+    /// Whether a communicator may be given back, and that comes after a step.
+    fn backs_above(&self, after: Option<&Act>, ctx: u16) -> bool
+        ensures { result ≡ (is_above (option_copied after.entry) (Act.Back ctx) && is_enabled self.now.state (Act.Back ctx)) }
+    {
+        is_back_above(after, ctx) && self.can_give_back(ctx)
+    }
+
+    /// The least context after a step whose communicator may be given back.
+    fn next_back(&self, after: Option<&Act>) -> Option<u16>
+        ensures { IsLeastContext (λ c. is_above (option_copied after.entry) (Act.Back c) && is_enabled self.now.state (Act.Back c)) (map (λ m. m.ctx) self.now.state.comms) result }
+    {
+        let mut lowest = None;
+        for row in self.comms.iter() {
+            lowest = keep_lowest(lowest, row.ctx, self.backs_above(after, row.ctx));
+        }
+        lowest
+    }
+
+    /// The first enabled step of a kind, in the order of threads, of keys or of contexts, that comes
+    /// after `after`, or the first of all where `after` is None. `after` is of that kind.
     pub fn next(&self, kind: StepKind, after: Option<&Act>) -> Option<Act>
         requires { IfSome (option_copied after) (λ a. is_of_kind kind a ≡ true) }
         ensures found { IfSome result (λ a. IsNext self.now.state kind (option_copied after.entry) a) }
@@ -206,6 +284,8 @@ impl<const W: usize> RankState<W> {
             StepKind::Answer => self.next_answer(after).map(|thread| Act::Answer { thread }),
             StepKind::Settle => self.next_settle(after).map(|key| Act::Settle { key }),
             StepKind::Offer => self.next_offer(after).map(|key| Act::Offer { key }),
+            StepKind::Leave => self.next_leave(after).map(|ctx| Act::Leave { ctx }),
+            StepKind::Back => self.next_back(after).map(|ctx| Act::Back { ctx }),
         }
     }
 }

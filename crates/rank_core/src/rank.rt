@@ -61,7 +61,7 @@ impl<const W: usize> Model for RankState<W> {
           (min (vec_capacity r.comms - vec_len r.comms) (vec_capacity r.names - vec_len r.names))));
     } };
 
-    ghost invariant = { λ r. IsRank W r.rank r.setting r.threads.items };
+    ghost invariant = { λ r. IsRank W r.rank r.setting r.comms.items r.threads.items };
 }
 
 /// So many threads as a rank has, none of which has called anything.
@@ -195,8 +195,8 @@ fn waits_on(waits: &Waits, key: &Key) -> bool
     ensures { result ≡ is_waiting_on key.now waits.now }
 {
     match waits {
-        Waits::Nothing => false,
         Waits::Creation { key: awaited, .. } => awaited.is_same(key),
+        Waits::Nothing | Waits::Freeing { .. } | Waits::Returned => false,
     }
 }
 
@@ -205,7 +205,7 @@ fn session_in(waits: &Waits) -> u64
     ensures { result ≡ session_within waits.now }
 {
     match waits {
-        Waits::Nothing => 0,
         Waits::Creation { session, .. } => *session,
+        Waits::Nothing | Waits::Freeing { .. } | Waits::Returned => 0,
     }
 }

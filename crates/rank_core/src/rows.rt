@@ -1,12 +1,12 @@
 //! Changes of rows.
 ghost use Rattle.std.specs.Prelude.{◌≡◌, ◌≤◌, ◌+◌, ◌-◌, ◌^◌, ◌<◌, ◌∷◌, ◌++◌, [], All, get_or, set, length};
 ghost use Rattle.mpi_law.specs.Local.{bind as names_with, rebind, unbind};
-ghost use Rattle.mpi_protocol.specs.Rank.{count_creation as counted_rows, set_stage as staged_rows, close_creation as closed_rows, drop_round as dropped_rounds, set_round as round_put, idle_thread};
+ghost use Rattle.mpi_protocol.specs.Rank.{count_creation as counted_rows, set_comm_stage as comm_staged_rows, drop_comm as comms_without, return_threads as returned_rows, is_freeing as is_freeing_at, set_stage as staged_rows, close_creation as closed_rows, drop_round as dropped_rounds, set_round as round_put, idle_thread};
 ghost use Rattle.rank_core.specs.Rooms.{room_of};
 
 use mpi_base::{Key, Name};
 use mpi_law::{Bound, NameRow};
-use mpi_protocol::{CommRow, CreationRow, RoundRow, Stage, ThreadRow, Waits};
+use mpi_protocol::{CommRow, CommStage, CreationRow, RoundRow, Stage, ThreadRow, Waits};
 use std::mem;
 
 /// Moves a creation on to a stage.
@@ -53,7 +53,7 @@ pub(crate) fn set_round(rounds: &mut Vec<RoundRow>, key: &Key, round: u64)
 /// Adds a communicator of a key's members. There is room for it.
 pub(crate) fn add_comm(comms: &mut Vec<CommRow>, ctx: u16, key: &Key, session: u64)
     requires { 1 ≤ room_of comms.old }
-    ensures rows { comms.new.items ≡ comms.old.items ++ record { ctx = ctx; members = key.now.members; session = session; creations = 0 } ∷ [] }
+    ensures rows { comms.new.items ≡ comms.old.items ++ record { ctx = ctx; members = key.now.members; session = session; creations = 0; stage = CommStage.Live } ∷ [] }
     ensures room { room_of comms.old ≤ room_of comms.new + 1 }
 {
     comms.push_reserved(CommRow {
@@ -61,6 +61,7 @@ pub(crate) fn add_comm(comms: &mut Vec<CommRow>, ctx: u16, key: &Key, session: u
         members: key.members.copy(),
         session,
         creations: 0,
+        stage: CommStage::Live,
     });
 }
 
@@ -75,6 +76,26 @@ pub(crate) fn count_creation(comms: &mut Vec<CommRow>, ctx: u16)
             row.creations += 1;
         }
     }
+}
+
+/// Moves a communicator on to a stage.
+pub(crate) fn set_comm_stage(comms: &mut Vec<CommRow>, ctx: u16, stage: CommStage)
+    ensures rows { comms.new.items ≡ comm_staged_rows comms.old.items ctx stage }
+    ensures room { room_of comms.old ≤ room_of comms.new }
+{
+    for row in comms.iter_mut() {
+        if row.ctx == ctx {
+            row.stage = stage;
+        }
+    }
+}
+
+/// Takes a communicator out.
+pub(crate) fn drop_comm(comms: &mut Vec<CommRow>, ctx: u16)
+    ensures rows { comms.new.items ≡ comms_without comms.old.items ctx }
+    ensures room { room_of comms.old ≤ room_of comms.new }
+{
+    comms.retain(|row| row.ctx != ctx);
 }
 
 /// Binds a name. There is room for it.
@@ -125,4 +146,25 @@ pub(crate) fn count_call(threads: &mut Vec<ThreadRow>, thread: u8, waits: Waits)
     let row = &mut threads[thread as usize];
     row.calls += 1;
     row.waits = waits;
+}
+
+/// Whether a thread that waits for this waits until a context is given back.
+fn is_freeing(waits: &Waits, ctx: u16) -> bool
+    ensures { result ≡ is_freeing_at ctx waits.now }
+{
+    match waits {
+        Waits::Freeing { ctx: awaited } => *awaited == ctx,
+        Waits::Nothing | Waits::Creation { .. } | Waits::Returned => false,
+    }
+}
+
+/// A context is given back: the threads that wait for that may be answered.
+pub(crate) fn return_threads(threads: &mut Vec<ThreadRow>, ctx: u16)
+    ensures { threads.new.items ≡ returned_rows threads.old.items ctx }
+{
+    for row in threads.iter_mut() {
+        if is_freeing(&row.waits, ctx) {
+            row.waits = Waits::Returned;
+        }
+    }
 }

@@ -1,7 +1,8 @@
 //! Worked examples.
 
-ghost use Rattle.std.specs.Prelude.{◌≤◌, ◌<◌, ◌-◌, ◌^◌, All};
+ghost use Rattle.std.specs.Prelude.{◌≡◌, ◌≤◌, ◌<◌, ◌-◌, ◌^◌, All};
 ghost use Rattle.std.specs.Bool.{OnTrue};
+ghost use Rattle.mpi_protocol.specs.Step.{is_enabled};
 
 use crate::journal::Journal;
 use crate::next::StepKind;
@@ -38,6 +39,10 @@ fn create(rt: &impl Abort, group: &[u8], text: &[u8], target: &[u8]) -> Op {
 
 fn dup(rt: &impl Abort, comm: &[u8], target: &[u8]) -> Op {
     Op::Dup(name(rt, comm), name(rt, target))
+}
+
+fn free(rt: &impl Abort, comm: &[u8]) -> Op {
+    Op::Free(name(rt, comm))
 }
 
 /// The key of a creation from the group of one rank.
@@ -123,6 +128,30 @@ fn settle(
     Ok(rank.settle(key.copy()).said)
 }
 
+fn leave(rt: &impl Abort, rank: &mut RankState<1>, ctx: u16) -> Result<Entry, OutOfMemory> {
+    rank.reserve()?;
+    assert!(rt; can_leave(rank, ctx));
+    Ok(rank.leave(ctx))
+}
+
+fn back(rt: &impl Abort, rank: &mut RankState<1>, ctx: u16) -> Result<Entry, OutOfMemory> {
+    rank.reserve()?;
+    assert!(rt; can_give_back(rank, ctx));
+    Ok(rank.back(ctx))
+}
+
+fn can_leave(rank: &RankState<1>, ctx: u16) -> bool
+    ensures { result ≡ is_enabled rank.now.state (Act.Leave ctx) }
+{
+    rank.enabled(&Act::Leave { ctx })
+}
+
+fn can_give_back(rank: &RankState<1>, ctx: u16) -> bool
+    ensures { result ≡ is_enabled rank.now.state (Act.Back ctx) }
+{
+    rank.enabled(&Act::Back { ctx })
+}
+
 /// A rank alone, with a session `s` and its group `g`.
 fn alone(rt: &impl Abort, alloc: Global, contexts: u16) -> Result<RankState<1>, OutOfMemory>
     requires { (1 ≤ contexts) × (contexts ≤ 63) }
@@ -168,6 +197,15 @@ fn with_comm(rt: &impl Abort, alloc: Global, contexts: u16) -> Result<RankState<
     assert!(rt; call(rt, &mut rank, 0, create(rt, b"g", b"a", b"c"))?.is_none());
     let reply = decided(rt, &mut rank, &key(rt, b"a", 0), Said::Picked(1))?;
     assert!(rt; reply == made(1));
+    Ok(rank)
+}
+
+/// A rank alone, with a communicator `c` from its group `g` and a duplicate `d` of it.
+fn with_duplicate(rt: &impl Abort, alloc: Global) -> Result<RankState<1>, OutOfMemory> {
+    let mut rank = with_comm(rt, alloc, 63)?;
+    assert!(rt; call(rt, &mut rank, 0, dup(rt, b"c", b"d"))?.is_none());
+    let reply = decided(rt, &mut rank, &dup_key(rt, 1, 0), Said::Picked(2))?;
+    assert!(rt; reply == made(2));
     Ok(rank)
 }
 
@@ -301,6 +339,119 @@ fn creation_before_duplicate(rt: HostRuntime) -> Result<(), Fail> {
 }
 
 #[test]
+fn context_used_again(rt: HostRuntime) -> Result<(), Fail> {
+    let mut rank = with_duplicate(&rt, rt.alloc())?;
+    assert!(rt; !can_leave(&rank, 1));
+    assert!(rt; call(&rt, &mut rank, 0, free(&rt, b"c"))?.is_none());
+    assert!(rt; !can_give_back(&rank, 1));
+    let left = leave(&rt, &mut rank, 1)?;
+    assert!(rt; left.choice.act == Act::Leave { ctx: 1 });
+    assert!(rt; left.said.is_none() && left.dropped.is_none() && left.reply.is_none());
+    assert!(rt; !can_leave(&rank, 1) && !can_give_back(&rank, 2));
+    let given_back = back(&rt, &mut rank, 1)?;
+    assert!(rt; given_back.choice.act == Act::Back { ctx: 1 });
+    assert!(rt; given_back.said.is_none() && given_back.reply.is_none());
+    assert!(rt; given_back.dropped == Some(0));
+    assert!(rt; answer(&rt, &mut rank, 0)? == Some(Reply::Fine));
+    assert!(rt; call(&rt, &mut rank, 0, create(&rt, b"g", b"b", b"e"))?.is_none());
+    let reply = decided(&rt, &mut rank, &key(&rt, b"b", 0), Said::Picked(1))?;
+    assert!(rt; reply == made(1));
+    Ok(())
+}
+
+#[test]
+fn freed_names(rt: HostRuntime) -> Result<(), Fail> {
+    let mut rank = with_comm(&rt, rt.alloc(), 63)?;
+    for comm in [b"x", b"s", b"g"] {
+        let reply = call(&rt, &mut rank, 0, free(&rt, comm))?;
+        assert!(rt; reply == refused(ErrClass::Comm));
+    }
+    assert!(rt; call(&rt, &mut rank, 0, free(&rt, b"c"))?.is_none());
+    let reply = call(&rt, &mut rank, 1, free(&rt, b"c"))?;
+    assert!(rt; reply == refused(ErrClass::Comm));
+    assert!(rt; call(&rt, &mut rank, 1, create(&rt, b"g", b"x", b"c"))?.is_none());
+    Ok(())
+}
+
+#[test]
+fn no_give_back_while_a_key_owns(rt: HostRuntime) -> Result<(), Fail> {
+    let mut rank = with_comm(&rt, rt.alloc(), 63)?;
+    let b = key(&rt, b"b", 0);
+    assert!(rt; call(&rt, &mut rank, 0, free(&rt, b"c"))?.is_none());
+    assert!(rt; call(&rt, &mut rank, 1, create(&rt, b"g", b"b", b"e"))?.is_none());
+    let _ = leave(&rt, &mut rank, 1)?;
+    assert!(rt; can_give_back(&rank, 1));
+    assert!(rt; settle(&rt, &mut rank, &b)? == Some(Said::Ready));
+    assert!(rt; offer(&rt, &mut rank, &b)? == Some(Said::Own));
+    assert!(rt; !can_give_back(&rank, 1));
+    assert!(rt; settle(&rt, &mut rank, &b)? == Some(Said::Picked(2)));
+    assert!(rt; can_give_back(&rank, 1));
+    assert!(rt; back(&rt, &mut rank, 1)?.dropped == Some(0));
+    Ok(())
+}
+
+#[test]
+fn no_leave_under_a_duplicate(rt: HostRuntime) -> Result<(), Fail> {
+    let mut rank = with_comm(&rt, rt.alloc(), 63)?;
+    let dup_of_c = dup_key(&rt, 1, 0);
+    assert!(rt; call(&rt, &mut rank, 1, dup(&rt, b"c", b"d"))?.is_none());
+    assert!(rt; call(&rt, &mut rank, 0, free(&rt, b"c"))?.is_none());
+    assert!(rt; !can_leave(&rank, 1));
+    assert!(rt; settle(&rt, &mut rank, &dup_of_c)? == Some(Said::Ready));
+    assert!(rt; offer(&rt, &mut rank, &dup_of_c)? == Some(Said::Own));
+    assert!(rt; !can_leave(&rank, 1));
+    assert!(rt; settle(&rt, &mut rank, &dup_of_c)? == Some(Said::Picked(2)));
+    assert!(rt; !can_leave(&rank, 1));
+    assert!(rt; answer(&rt, &mut rank, 1)? == made(2));
+    assert!(rt; can_leave(&rank, 1));
+    Ok(())
+}
+
+#[test]
+fn freed_context_is_in_use(rt: HostRuntime) -> Result<(), Fail> {
+    let mut rank = with_comm(&rt, rt.alloc(), 63)?;
+    let b = key(&rt, b"b", 0);
+    assert!(rt; call(&rt, &mut rank, 0, free(&rt, b"c"))?.is_none());
+    assert!(rt; call(&rt, &mut rank, 1, create(&rt, b"g", b"b", b"e"))?.is_none());
+    assert!(rt; settle(&rt, &mut rank, &b)? == Some(Said::Ready));
+    assert!(rt; offer(&rt, &mut rank, &b)? == Some(Said::Own));
+    assert!(rt; settle(&rt, &mut rank, &b)? == Some(Said::Picked(2)));
+    assert!(rt; answer(&rt, &mut rank, 1)? == made(2));
+    Ok(())
+}
+
+#[test]
+fn next_leaves(rt: HostRuntime) -> Result<(), Fail> {
+    let mut rank = with_duplicate(&rt, rt.alloc())?;
+    assert!(rt; rank.next(StepKind::Leave, None).is_none());
+    assert!(rt; call(&rt, &mut rank, 0, free(&rt, b"d"))?.is_none());
+    assert!(rt; call(&rt, &mut rank, 1, free(&rt, b"c"))?.is_none());
+    let (first, second) = (Act::Leave { ctx: 1 }, Act::Leave { ctx: 2 });
+    assert!(rt; rank.next(StepKind::Leave, None) == Some(first.copy()));
+    assert!(rt; rank.next(StepKind::Leave, Some(&first)) == Some(second.copy()));
+    assert!(rt; rank.next(StepKind::Leave, Some(&second)).is_none());
+    assert!(rt; rank.next(StepKind::Back, None).is_none());
+    Ok(())
+}
+
+#[test]
+fn next_give_backs(rt: HostRuntime) -> Result<(), Fail> {
+    let mut rank = with_duplicate(&rt, rt.alloc())?;
+    assert!(rt; call(&rt, &mut rank, 0, free(&rt, b"d"))?.is_none());
+    assert!(rt; call(&rt, &mut rank, 1, free(&rt, b"c"))?.is_none());
+    for ctx in [2, 1] {
+        let _ = leave(&rt, &mut rank, ctx)?;
+    }
+    let (first, second) = (Act::Back { ctx: 1 }, Act::Back { ctx: 2 });
+    assert!(rt; rank.next(StepKind::Back, None) == Some(first.copy()));
+    assert!(rt; rank.next(StepKind::Back, Some(&first)) == Some(second.copy()));
+    assert!(rt; back(&rt, &mut rank, 1)?.dropped == Some(0));
+    assert!(rt; rank.next(StepKind::Back, None) == Some(second));
+    assert!(rt; rank.next(StepKind::Answer, None) == Some(Act::Answer { thread: 1 }));
+    Ok(())
+}
+
+#[test]
 fn next_steps(rt: HostRuntime) -> Result<(), Fail> {
     let mut rank = alone(&rt, rt.alloc(), 63)?;
     let (a, b) = (key(&rt, b"a", 0), key(&rt, b"b", 0));
@@ -351,6 +502,7 @@ fn journal(rt: HostRuntime) -> Result<(), Fail> {
                 act: Act::Answer { thread },
             },
             said: None,
+            dropped: None,
             reply: Some(Reply::Null),
         });
     }

@@ -11,42 +11,47 @@ use Rattle.mpi_base.specs.declared.ops.Op.{Op}
 use Rattle.mpi_base.specs.declared.ops.Reply.{Reply}
 use Rattle.mpi_law.specs.declared.setting.Setting.{Setting}
 use Rattle.mpi_law.specs.ScriptLists.{is_built}
-use Rattle.mpi_law.specs.Local.{Local, Asked, Effect, Says, Joins, effect_of}
-use Rattle.mpi_law.specs.Registry.{Registry, Calls, Replies, RankPart, ThreadPart, Creation, Caller, Outcome, Wait, Idle, Reply_now, Creating, MayCall, blank_creation, idle_thread as idle_part, caller_of, CreationName, Group_and_tag, same_name, name_of, group_of, called_on, comm_of, is_on, stands_for, is_open, undecided_place, part_of, thread_of, after_effect, after_reply, effect_at, owed, owed_to, registry_next}
+use Rattle.mpi_law.specs.Local.{Local, Asked, Effect, Says, Joins, Frees as FreesIt, effect_of}
+use Rattle.mpi_law.specs.Registry.{Registry, Calls, Replies, RankPart, ThreadPart, Creation, Caller, Outcome, Wait, Idle, Reply_now, Creating, Freeing, Communicator, MayCall, blank_creation, idle_thread as idle_part, caller_of, CreationName, Group_and_tag, same_name, name_of, group_of, called_on, is_on, stands_for, is_open, undecided_place, part_of, thread_of, after_effect, after_reply, effect_at, owed, owed_to, registry_next}
 use Rattle.mpi_protocol.specs.declared.rows.Stage.{Stage}
 use Rattle.mpi_protocol.specs.declared.rows.Stage.TheVariants.{Called}
 use Rattle.mpi_protocol.specs.declared.rows.Waits.{Waits}
-use Rattle.mpi_protocol.specs.declared.rows.Waits.TheVariants.{Nothing, Creation as Creates}
+use Rattle.mpi_protocol.specs.declared.rows.Waits.TheVariants.{Nothing, Creation as Creates, Freeing as Frees, Returned}
 use Rattle.mpi_protocol.specs.declared.rows.ThreadRow.{ThreadRow}
 use Rattle.mpi_protocol.specs.Rank.{Rank, Offer, stage_of, round_of, thread_at, idle_thread, is_idle, waits_on}
 use Rattle.mpi_protocol.specs.Agreement.{has_offer}
 use Rattle.mpi_protocol.specs.Step.{key_of, called, joined, is_open_here, empty_mask}
 use Rattle.mpi_protocol.specs.World.{rank_at}
 use Rattle.mpi_protocol.specs.Run.{reply_events}
-use Rattle.run_law.proofs.Lists.{tally, tally-set, one, get_or-append, get_or-last, length-snoc, All_map, All_snoc}
+use Rattle.run_law.proofs.Lists.{get_or_past, tally, tally-set, one, get_or-append, get_or-last, length-snoc, All_map, All_snoc}
 use Rattle.run_law.proofs.Rows.{or_else, or_else_none, stage_of-open, has_offer-append}
 use Rattle.run_law.proofs.Creations.{undecided_is, undecided_bound, join-new}
 use Rattle.run_law.proofs.Names.{EffectFits, effect_fits}
-use Rattle.run_law.proofs.Contexts.{is_numbered, row_at, called_on-append, same_name_is, one_key_of}
+use Rattle.run_law.proofs.Contexts.{Keeps, is_numbered, called_on-append, same_name_is, one_key_of}
 use Rattle.run_law.proofs.Asking.{Asks, asks}
-use Rattle.run_law.proofs.Fits.{LocalFits, StageFits, row_of, CreationFits, WaitFits, RankFits, OfferFits, offer_fits, round_fits, is_away, is_owned, Waited, Joined}
-use Rattle.run_law.proofs.Grown.{Grows, CommFits-kept, CreationFits-grown, joined_step, threads_after}
+use Rattle.run_law.proofs.Bindings.{EffectNames, effect_names}
+use Rattle.mpi_law.specs.Registry.{Made}
+use Rattle.run_law.proofs.Fits.{Unbound, Whole, LocalFits, StageFits, row_of, CreationFits, WaitFits, RankFits, OfferFits, offer_fits, round_fits, is_away, is_owned, Waited, Joined}
+use Rattle.run_law.proofs.Grown.{Grows, WaitFits-same, unbound_on, CreationFits-grown, joined_step, threads_after}
 use Rattle.run_law.proofs.Own.{open_agrees, same_rank}
 use Rattle.run_law.proofs.Offers.{gathers}
-use Rattle.run_law.proofs.Threads.{part_there, thread_there, others_stay}
+use Rattle.run_law.proofs.Threads.{part_there, thread_there, waits_still}
 use Rattle.run_law.proofs.SettleSteps.{Goes}
+use Rattle.run_law.proofs.FreeSteps.{free_goes}
+use Rattle.mpi_base.specs.MemberLists.{has_rank}
 
 -- a thread that is idle at the rank is idle in the registry
 idle_both : (g : Registry) (r : ℕ) (x : Rank) (a : Waits) (b : Wait) → is_idle a ≡ true → WaitFits g r x a b → (a ≡ Nothing) × (b ≡ Idle)
 idle_both g r x Nothing Idle e f = (refl, refl)
-idle_both g r x Nothing (Reply_now said) e f = absurd f
-idle_both g r x Nothing (Creating n) e f = absurd f
+idle_both g r x Nothing b e f = absurd f
 idle_both g r x (Creates key target session) b e f = absurd (cc (e))
+idle_both g r x (Frees c) b e f = absurd (cc (e))
+idle_both g r x Returned b e f = absurd (cc (e))
 
 -- A reply at once
 
 module _ (s : Setting) (w : List Rank) (g : Registry) (r t : ℕ) (op : Op) (j : Joined s w g) (lt : r < s.ranks) (t8 : t < 8) (waits : (thread_at (rank_at w r) t).waits ≡ Nothing) (part_waits : (thread_of g r t).wait ≡ Idle)
-    (l m : Local) (said back : Reply) (effect : effect_at s g r op ≡ Says m back) (local : LocalFits g.comms r l m) (same : back ≡ said) where
+    (l m : Local) (said back : Reply) (effect : effect_at s g r op ≡ Says m back) (local : LocalFits g.comms r l m) (same : back ≡ said) (names : EffectNames (rank_at w r).local.names (Says l said)) where
   said_row : ThreadRow
   said_row = record { calls = (thread_at (rank_at w r) t).calls + 1; waits = Nothing }
 
@@ -87,12 +92,7 @@ module _ (s : Setting) (w : List Rank) (g : Registry) (r t : ℕ) (op : Op) (j :
 
   waits_after : (u : ℕ) (a : Waits) (b : Wait) → WaitFits g r (rank_at w r) a b → WaitFits new r y a b
   unfolding new y
-  waits_after u Nothing Idle f = tt
-  waits_after u Nothing (Reply_now q) f = absurd f
-  waits_after u Nothing (Creating n) f = absurd f
-  waits_after u (Creates k to from) Idle f = absurd f
-  waits_after u (Creates k to from) (Reply_now q) f = absurd f
-  waits_after u (Creates k to from) (Creating n) f = record { there = f.there; is = f.is; members = f.members; numbered = f.numbered; alone = f.alone; called = f.called; target_is = f.target_is; session_is = f.session_is; stage = f.stage }
+  waits_after u a b f = WaitFits-same g new r (rank_at w r) y refl refl refl refl names.unbound a b f
 
   kept : RankFits s new r y part
   unfolding new y part said_part said_row
@@ -116,22 +116,17 @@ module _ (s : Setting) (w : List Rank) (g : Registry) (r t : ℕ) (op : Op) (j :
         offers = All_map (OfferFits (rank_at w r)) (OfferFits y) (rank_at w r).gathered (λ o q. record { stage = q.stage; owner = q.owner; mask = q.mask }) f.offers;
         held = f.held;
         owner = f.owner;
-        comms = λ c. CommFits-kept g new r c (λ p lp. refl) (λ p. refl) (row_at (rank_at w r).comms c) (comm_of g.comms r c) refl (f.comms c);
+        names = names.apart;
+        comms = f.comms;
+        left = f.left;
+        range = f.range;
+        wide = f.wide;
         mask = f.mask;
       }
 
   waited_after : (n : ℕ) → n < length new.creations → is_none (row_of new n).outcome ≡ true → Waited s new n
   unfolding new part said_part
-  waited_after n ln open_row =
-      let v = j.waited n ln open_row in
-      let k = j.parts in
-      let stays = others_stay g new r t part said_part refl (omega (arith, k, lt)) refl v.rank v.thread (λ q u. apart v q u) in
-      record { rank = v.rank; thread = v.thread; rank_in = v.rank_in; thread_in = v.thread_in; waits = ap (λ (z : ThreadPart). z.wait) stays ∙ v.waits }
-    where
-      apart : (v : Waited s g n) → v.rank ≡ r → v.thread ≡ t → ⊥
-      apart v q u =
-          let a : (thread_of g r t).wait ≡ Creating n = subst (λ (i : ℕ). (thread_of g r i).wait ≡ Creating n) u (subst (λ (i : ℕ). (thread_of g i v.thread).wait ≡ Creating n) q v.waits) in
-          cc (a, part_waits)
+  waited_after n ln open_row = let k = j.parts in waits_still s g new r t n part said_part refl (omega (arith, k, lt)) refl (λ e. cc (e, part_waits)) (j.whole.waited n ln open_row)
 
   pub said_goes : Goes s g (Calls r t op true ∷ Replies r t said ∷ []) (set w r (record (rank_at w r) { local = l; threads = set (rank_at w r).threads t (record { calls = (thread_at (rank_at w r) t).calls + 1; waits = Nothing }) }))
   unfolding registry_next asked new now_part part said_part said_row y
@@ -140,7 +135,8 @@ module _ (s : Setting) (w : List Rank) (g : Registry) (r t : ℕ) (op : Op) (j :
       let after : after_effect g r t (effect_at s g r op) ≡ asked = rw effect refl in
       let owes : owed asked r t ≡ Some said = ap (λ (z : ThreadPart). owed_to asked r z.wait) thread_asked ∙ ap (λ (q : Reply). Some q) same in
       let ends : after_reply asked r t (thread_of asked r t).wait ≡ new = ap (λ (z : ThreadPart). after_reply asked r t z.wait) thread_asked ∙ replied in
-      let whole : Joined s (set w r y) new = joined_step s w g new r y part j lt refl (record { comms_stay = λ p lp. refl; more_rows = omega arith; rows_stay = λ n ln other. refl; stands_stay = λ q c p e. e; contexts_stay = λ q c ne. refl; counts_stay = λ q p ne. refl }) kept waited_after j.placed in
+      let whole : Joined s (set w r y) new = joined_step s w g new r y part j lt refl (record { more_comms = omega arith; comms_stay = λ p lp other. refl; more_rows = omega arith; rows_stay = λ n ln other. refl; contexts_stay = λ q c ne. refl; returned_stay = λ q p h. h; counts_stay = λ q p ne. refl }) kept
+      (record { waited = waited_after; placed = j.whole.placed; apart = j.whole.apart; owned = j.whole.owned; made_inside = j.whole.made_inside; made_once = j.whole.made_once }) in
       ((may, (rw after owes, tt)), rw after (subst (λ (h : Registry). Joined s (set w r y) h) (sym ends) whole))
 
 -- A creation is joined
@@ -158,7 +154,7 @@ offer_some None own f = absurd (cc (f))
 offer_some (Some a) own f = refl
 
 module _ (s : Setting) (w : List Rank) (g : Registry) (r t : ℕ) (op : Op) (j : Joined s w g) (lt : r < s.ranks) (t8 : t < 8) (waits : (thread_at (rank_at w r) t).waits ≡ Nothing) (part_waits : (thread_of g r t).wait ≡ Idle)
-    (l m : Local) (a b : Asked) (effect : effect_at s g r op ≡ Joins m b) (local : LocalFits g.comms r l m) (target : b.target ≡ a.target) (session : b.session ≡ a.session) (q : Asks g r (rank_at w r) a.origin b.origin) where
+    (l m : Local) (a b : Asked) (effect : effect_at s g r op ≡ Joins m b) (local : LocalFits g.comms r l m) (target : b.target ≡ a.target) (session : b.session ≡ a.session) (q : Asks g r (rank_at w r) a.origin b.origin) (names : EffectNames (rank_at w r).local.names (Joins l a)) where
   key : Key
   key = key_of (rank_at w r) a.origin
 
@@ -199,12 +195,11 @@ module _ (s : Setting) (w : List Rank) (g : Registry) (r t : ℕ) (op : Op) (j :
       found : undecided_place g.creations (name_of g r b.origin) < length g.creations → ⊥
       found lm =
           let un = undecided_is g.creations (name_of g r b.origin) lm in
-          let v = j.waited (undecided_place g.creations (name_of g r b.origin)) lm (grind (arith, un)) in
+          let v = j.whole.waited (undecided_place g.creations (name_of g r b.origin)) lm (grind (arith, un)) in
           let fq = j.fits v.rank v.rank_in in
           at (undecided_place g.creations (name_of g r b.origin)) v un (thread_at (rank_at w v.rank) v.thread).waits (subst (λ (c : Wait). WaitFits g v.rank (rank_at w v.rank) (thread_at (rank_at w v.rank) v.thread).waits c) v.waits (fq.waits v.thread))
         where
           at : (n : ℕ) (v : Waited s g n) → (same_name (row_of g n).name (name_of g r b.origin) && is_none (row_of g n).outcome) ≡ true → (z : Waits) → WaitFits g v.rank (rank_at w v.rank) z (Creating n) → ⊥
-          at n v un Nothing f = f
           at n v un (Creates k to from) f =
               let named : (row_of g n).name ≡ name_of g r b.origin = same_name_is (row_of g n).name (name_of g r b.origin) (grind (arith, un)) in
               let stands : stands_for g.comms v.rank k ≡ Some (name_of g r b.origin) = f.is ∙ ap (λ (z : CreationName). Some z) named in
@@ -214,6 +209,7 @@ module _ (s : Setting) (w : List Rank) (g : Registry) (r t : ℕ) (op : Op) (j :
               let none : stage_of (rank_at w v.rank).opened k ≡ None = rw (here, is) key_free in
               let st = f.stage in
               (rw none at st)
+          at n v un z f = absurd f
 
       go : (c : Bool) → nat_lt (undecided_place g.creations (name_of g r b.origin)) (length g.creations) ≡ c → undecided_place g.creations (name_of g r b.origin) ≡ length g.creations
       go true e = absurd (found (grind (arith, nat_tests, e)))
@@ -240,11 +236,12 @@ module _ (s : Setting) (w : List Rank) (g : Registry) (r t : ℕ) (op : Op) (j :
   grows : Grows g grown r
   unfolding grown
   grows = record {
-    comms_stay = λ p lp. refl;
+    more_comms = omega arith;
+    comms_stay = λ p lp other. refl;
     more_rows = omega (arith, length-snoc g.creations row);
     rows_stay = λ n ln other. row_stays n ln;
-    stands_stay = λ i c p e. e;
     contexts_stay = λ i c ne. refl;
+    returned_stay = λ i p h. h;
     counts_stay = λ i p ne. elsewhere i p ne;
   }
 
@@ -269,14 +266,21 @@ module _ (s : Setting) (w : List Rank) (g : Registry) (r t : ℕ) (op : Op) (j :
   unfolding y'
   numbers_stay = q.numbers
 
+  unbound_stays : (o : Option Stage) → Unbound (rank_at w r).local.names o → Unbound y'.local.names o
+  unfolding y'
+  unbound_stays o u = unbound_on (rank_at w r).local.names l.names names.unbound o u
+
+  keeps : Keeps g.comms grown.comms r
+  unfolding grown
+  keeps = record { stands = λ c p e. e; same = λ c p e. refl }
+
   waits_before : (u : ℕ) (b : Waits) (c : Wait) → WaitFits g r (rank_at w r) b c → WaitFits grown r y' b c
   waits_before u Nothing Idle f = tt
-  waits_before u Nothing (Reply_now q) f = absurd f
-  waits_before u Nothing (Creating n) f = absurd f
-  waits_before u (Creates k to from) Idle f = absurd f
-  waits_before u (Creates k to from) (Reply_now q) f = absurd f
   waits_before u (Creates k to from) (Creating n) f =
-      CreationFits-grown g grown r r (rank_at w r) y' k to from n grows (row_stays n f.there) (stage_stays k (stage_some g r (row_of g n).group (stage_of (rank_at w r).opened k) (row_of g n).outcome f.stage)) (numbers_stay k f.numbered) f
+      CreationFits-grown g grown r (rank_at w r) y' k to from n grows.more_rows keeps (row_stays n f.there) (stage_stays k (stage_some g r (row_of g n).group (stage_of (rank_at w r).opened k) (row_of g n).outcome f.stage)) (numbers_stay k f.numbered) (unbound_stays (stage_of (rank_at w r).opened k) f.unbound) f
+  waits_before u (Frees c) (Freeing p) f = (keeps.stands c p f.0, ap (λ (m : Communicator). has_rank m.freed r) (keeps.same c p f.0) ∙ f.1)
+  waits_before u Returned (Freeing p) f = grows.returned_stay r p f
+  waits_before u b c f = absurd f
 
   waits_here : CreationFits grown r y' (key_of (rank_at w r) a.origin) a.target a.session (length g.creations)
   unfolding grown row caller y'
@@ -285,6 +289,7 @@ module _ (s : Setting) (w : List Rank) (g : Registry) (r t : ℕ) (op : Op) (j :
     is = rw row_new q.stands;
     members = rw row_new q.members;
     numbered = q.numbered;
+    unbound = rw stage_here tt;
     alone = rw row_new (sym q.members ∙ q.alone);
     called = rw row_new (grind (arith, nat_tests));
     target_is = rw row_new (let e : caller_of (caller ∷ []) r ≡ caller = grind (arith, nat_tests) in ap (λ (k : Caller). k.target) e ∙ target);
@@ -309,7 +314,11 @@ module _ (s : Setting) (w : List Rank) (g : Registry) (r t : ℕ) (op : Op) (j :
         offers = subst (λ (os : List Offer). AllByRecursion (OfferFits y') os) (sym gathered_after) (All_snoc (OfferFits y') (rank_at w r).gathered _ (All_map (OfferFits (rank_at w r)) (OfferFits y') (rank_at w r).gathered offer_before f.offers) offer_new);
         held = λ k e. rw (gathered_after, has_offer-append (rank_at w r).gathered (record { key = key_of (rank_at w r) a.origin; place = 0; own = false; mask = empty_mask (rank_at w r) }) k 0) (held_at k (same_key (key_of (rank_at w r) a.origin) k) refl (f.held k) (rw (stage_after k) at e));
         owner = λ k e. rw (stage_stays k (owned_some (stage_of (rank_at w r).opened k) (f.owner k e))) (f.owner k e);
+        names = names.apart;
         comms = λ c. q.known grown refl (λ p. here p) c;
+        left = q.left;
+        range = f.range;
+        wide = f.wide;
         mask = f.mask;
       }
     where
@@ -364,11 +373,6 @@ module _ (s : Setting) (w : List Rank) (g : Registry) (r t : ℕ) (op : Op) (j :
       k : length g.ranks ≡ s.ranks
       k = j.parts
 
-      apart : n < length g.creations → (v : Waited s g n) → v.rank ≡ r → v.thread ≡ t → ⊥
-      apart l v q u =
-          let z : (thread_of g r t).wait ≡ Creating n = subst (λ (i : ℕ). (thread_of g r i).wait ≡ Creating n) u (subst (λ (i : ℕ). (thread_of g i v.thread).wait ≡ Creating n) q v.waits) in
-          cc (z, part_waits)
-
       there : thread_of grown r t ≡ joined_part
       there =
           let p = (j.fits r lt).long_part in
@@ -377,9 +381,7 @@ module _ (s : Setting) (w : List Rank) (g : Registry) (r t : ℕ) (op : Op) (j :
       go : (b : Bool) → nat_lt n (length g.creations) ≡ b → Waited s grown n
       go true e =
           let l : n < length g.creations = grind (arith, nat_tests, e) in
-          let v = j.waited n l (rw (row_stays n l) at open_row) in
-          let stays = others_stay g grown r t part' joined_part refl (omega (arith, k, lt)) refl v.rank v.thread (λ q u. apart l v q u) in
-          record { rank = v.rank; thread = v.thread; rank_in = v.rank_in; thread_in = v.thread_in; waits = ap (λ (z : ThreadPart). z.wait) stays ∙ v.waits }
+          waits_still s g grown r t n part' joined_part refl (omega (arith, k, lt)) refl (λ w. cc (w, part_waits)) (j.whole.waited n l (rw (row_stays n l) at open_row))
       go false e =
           let last : n ≡ length g.creations = let s = length-snoc g.creations row in grind (arith, nat_tests, e, s, ln) in
           record { rank = r; thread = t; rank_in = lt; thread_in = t8; waits = ap (λ (z : ThreadPart). z.wait) there ∙ ap Creating (sym last) }
@@ -387,9 +389,40 @@ module _ (s : Setting) (w : List Rank) (g : Registry) (r t : ℕ) (op : Op) (j :
   placed : (p i : ℕ) → length g.comms ≤ p → called_on grown.creations p i ≡ 0
   placed p i l =
       let e = counts p i in
-      let z = j.placed p i l in
+      let z = j.whole.placed p i l in
       let o = q.placed p l in
       grind (arith, e, z, o)
+
+  outcome_new : (n p : ℕ) → (row_of grown n).outcome ≡ Some (Made p) → (row_of g n).outcome ≡ Some (Made p)
+  unfolding grown row
+  outcome_new n p e = go (nat_lt n (length g.creations)) refl
+    where
+      go : (c : Bool) → nat_lt n (length g.creations) ≡ c → (row_of g n).outcome ≡ Some (Made p)
+      go true lt' = ap (λ (z : Creation). z.outcome) (sym (row_stays n (grind (arith, nat_tests, lt')))) ∙ e
+      go false ge = past (nat_lt n (length g.creations + 1)) refl
+        where
+          past : (d : Bool) → nat_lt n (length g.creations + 1) ≡ d → (row_of g n).outcome ≡ Some (Made p)
+          past true h =
+              let is : n ≡ length g.creations = grind (arith, nat_tests, ge, h) in
+              let new_row : row_of grown n ≡ row = rw is row_new in
+              let none : (row_of grown n).outcome ≡ None = ap (λ (z : Creation). z.outcome) new_row in
+              absurd (cc (none, e))
+          past false h =
+              let long = length-snoc g.creations row in
+              let blank_row : row_of grown n ≡ blank_creation = get_or_past (g.creations ++ row ∷ []) n blank_creation (grind (arith, nat_tests, h, long)) in
+              let none : (row_of grown n).outcome ≡ None = ap (λ (z : Creation). z.outcome) blank_row in
+              absurd (cc (none, e))
+
+  whole' : Whole s grown
+  unfolding grown
+  whole' = record {
+    waited = waited_grown;
+    placed = placed;
+    apart = j.whole.apart;
+    owned = j.whole.owned;
+    made_inside = λ n p e. j.whole.made_inside n p (outcome_new n p e);
+    made_once = λ n m p e f. j.whole.made_once n m p (outcome_new n p e) (outcome_new m p f);
+  }
 
   pub joined_goes : Goes s g (Calls r t op false ∷ []) (set w r (joined (rank_at w r) t l a))
   unfolding registry_next grown row caller part' joined_part y'
@@ -397,7 +430,7 @@ module _ (s : Setting) (w : List Rank) (g : Registry) (r t : ℕ) (op : Op) (j :
       let may : MayCall s g r t op false = record { rank = lt; thread = t8; idle = rw part_waits refl; reply = rw effect refl } in
       let rows = join-new g.creations (name_of g r b.origin) (group_of g b.origin) caller none_open in
       let after : after_effect g r t (effect_at s g r op) ≡ grown = rw (effect, none_open, rows) refl in
-      let whole : Joined s (set w r y') grown = joined_step s w g grown r y' part' j lt refl grows kept' waited_grown placed in
+      let whole : Joined s (set w r y') grown = joined_step s w g grown r y' part' j lt refl grows kept' whole' in
       ((may, tt), subst (λ (h : Registry). Joined s (set w r y') h) (sym after) whole)
 
 -- a call that is enabled
@@ -408,15 +441,16 @@ call_goes s w g r t op j lt t8 idle built =
     let x = rank_at w r in
     let f = j.fits r lt in
     let both = idle_both g r x (thread_at x t).waits (get_or (part_of g r).threads t idle_part).wait idle (f.waits t) in
-    let fits = effect_fits s g.comms r (is_open_here x) (λ group tag. is_open g r (Group_and_tag group tag)) (open_agrees s g r x f) x.local (part_of g r).local f.local op built in
+    let fits = effect_fits s g.comms r (is_open_here x) (λ group tag. is_open g r (Group_and_tag group tag)) (open_agrees s g r x f) x.local (part_of g r).local f.local f.names op built in
+    let names = effect_names s r (is_open_here x) x.local op f.names in
     let same : effect_of x.setting x.rank (is_open_here x) x.local op ≡ effect_of s r (is_open_here x) x.local op = ap (λ (z : Setting). effect_of z x.rank (is_open_here x) x.local op) f.setting ∙ ap (λ (i : ℕ). effect_of s i (is_open_here x) x.local op) f.rank in
     subst (λ (e : Effect). Goes s g (Calls r t op (is_some (called x t e).reply) ∷ reply_events r t (called x t e).reply) (set w r (called x t e).state)) (sym same)
-    (go both.0 both.1 (effect_of s r (is_open_here x) x.local op) (effect_at s g r op) refl fits)
+    (go both.0 both.1 (effect_of s r (is_open_here x) x.local op) (effect_at s g r op) refl fits names)
   where
-    go : (thread_at (rank_at w r) t).waits ≡ Nothing → (thread_of g r t).wait ≡ Idle → (a b : Effect) → effect_at s g r op ≡ b → EffectFits g.comms r (is_open_here (rank_at w r)) a b
+    go : (thread_at (rank_at w r) t).waits ≡ Nothing → (thread_of g r t).wait ≡ Idle → (a b : Effect) → effect_at s g r op ≡ b → EffectFits g.comms r (is_open_here (rank_at w r)) a b → EffectNames (rank_at w r).local.names a
         → Goes s g (Calls r t op (is_some (called (rank_at w r) t a).reply) ∷ reply_events r t (called (rank_at w r) t a).reply) (set w r (called (rank_at w r) t a).state)
-    go wx wp (Says l said) (Says m back) e fit = said_goes s w g r t op j lt t8 wx wp l m said back e fit.0 fit.1
-    go wx wp (Says l said) (Joins m a) e fit = absurd fit
-    go wx wp (Joins l a) (Says m back) e fit = absurd fit
-    go wx wp (Joins l a) (Joins m b) e fit =
-        joined_goes s w g r t op j lt t8 wx wp l m a b e fit.0 fit.1 fit.2 (asks s g r (rank_at w r) (part_of g r) (j.fits r lt) a.origin b.origin fit.3)
+    go wx wp (Says l said) (Says m back) e fit names = said_goes s w g r t op j lt t8 wx wp l m said back e fit.0 fit.1 names
+    go wx wp (Joins l a) (Joins m b) e fit names =
+        joined_goes s w g r t op j lt t8 wx wp l m a b e fit.0 fit.1 fit.2 (asks s g r (rank_at w r) (part_of g r) (j.fits r lt) a.origin b.origin fit.3) names
+    go wx wp (FreesIt l c) (FreesIt m p) e fit names = free_goes s w g r t op j lt t8 wx wp l m c p e fit.0 fit.1 fit.2 fit.3 names
+    go wx wp a b e fit names = absurd fit

@@ -4,12 +4,12 @@ use Rattle.std.proofs.lemmas.Bool.Decides.{nat_tests}
 use Rattle.mpi_base.specs.declared.keys.Key.{Key}
 use Rattle.mpi_base.specs.declared.ops.Op.{Op}
 use Rattle.mpi_base.specs.declared.entries.Act.{Act}
-use Rattle.mpi_base.specs.declared.entries.Act.TheVariants.{Call, Answer, Offer as MakeOffer, Settle}
+use Rattle.mpi_base.specs.declared.entries.Act.TheVariants.{Call, Answer, Offer as MakeOffer, Settle, Leave, Back}
 use Rattle.mpi_base.specs.declared.entries.Choice.{Choice}
 use Rattle.mpi_base.specs.declared.entries.Entry.{Entry}
 use Rattle.mpi_law.specs.declared.setting.Setting.{Setting}
 use Rattle.mpi_law.specs.ScriptLists.{AllScripts, script_of, next_op}
-use Rattle.mpi_law.specs.Local.{Effect, Says, Joins, effect_of}
+use Rattle.mpi_law.specs.Local.{Effect, Says, Joins, Frees, effect_of}
 use Rattle.mpi_law.specs.Registry.{Registry, registry_opening, registry_after}
 use Rattle.mpi_protocol.specs.declared.rows.Outcome.{Outcome as Ended}
 use Rattle.mpi_protocol.specs.declared.rows.Outcome.TheVariants as ended
@@ -18,7 +18,7 @@ use Rattle.mpi_protocol.specs.declared.rows.Stage.TheVariants.{Called, Waiting, 
 use Rattle.mpi_protocol.specs.declared.rows.Verdict.{Verdict}
 use Rattle.mpi_protocol.specs.declared.rows.Verdict.TheVariants as verdict
 use Rattle.mpi_protocol.specs.declared.rows.Waits.{Waits}
-use Rattle.mpi_protocol.specs.declared.rows.Waits.TheVariants.{Nothing, Creation as Creates}
+use Rattle.mpi_protocol.specs.declared.rows.Waits.TheVariants.{Nothing, Creation as Creates, Freeing, Returned}
 use Rattle.mpi_protocol.specs.declared.rows.ThreadRow.{ThreadRow}
 use Rattle.mpi_protocol.specs.Rank.{Rank, fresh, stage_of, round_of, thread_at, idle_thread}
 use Rattle.mpi_protocol.specs.Agreement.{verdict_of}
@@ -30,6 +30,7 @@ use Rattle.run_law.proofs.Lists.{set_place, one}
 use Rattle.run_law.proofs.Fits.{Joined}
 use Rattle.run_law.proofs.Runs.{step_goes, opening_joined, get_or-replicate, run_sees}
 use Rattle.std.proofs.lemmas.List.FromFn.{get_or-map-range_with_len}
+use Rattle.run_law.proofs.BackSteps.{get_or-threads, returned_calls}
 use Rattle.run_law.proofs.Quiet.{all_idle}
 
 -- how often an act is a call of a thread
@@ -38,6 +39,8 @@ called_by u (Call t op) = one (t == u)
 called_by u (Answer t) = 0
 called_by u (MakeOffer key) = 0
 called_by u (Settle key) = 0
+called_by u (Leave c) = 0
+called_by u (Back c) = 0
 
 one_more : (xs : List ThreadRow) (t u : ℕ) (a : ThreadRow) → t < length xs → a.calls ≡ (get_or xs t idle_thread).calls + 1 → (get_or (set xs t a) u idle_thread).calls ≡ (get_or xs u idle_thread).calls + one (t == u)
 one_more xs t u a lt e = go (set_place xs t a idle_thread u)
@@ -68,6 +71,7 @@ step_calls x (Call t op) u inside = go (effect_of x.setting x.rank (is_open_here
     go : (e : Effect) → (thread_at (called x t e).state u).calls ≡ (thread_at x u).calls + one (t == u)
     go (Says l r) = one_more x.threads t u _ (inside t op refl) refl
     go (Joins l q) = one_more x.threads t u _ (inside t op refl) refl
+    go (Frees l c) = one_more x.threads t u _ (inside t op refl) refl
 step_calls x (Answer t) u inside = at (thread_at x t).waits
   where
     plus : (n m : ℕ) → n ≡ m → n ≡ m + 0
@@ -87,6 +91,10 @@ step_calls x (Answer t) u inside = at (thread_at x t).waits
     at : (w : Waits) → (thread_at (answered x t w).state u).calls ≡ (thread_at x u).calls + 0
     at Nothing = omega arith
     at (Creates key target session) = done key target session (stage_of x.opened key)
+    at (Freeing c) = omega arith
+    at Returned = plus _ _ (same_calls x.threads t u (record { calls = (thread_at x t).calls; waits = Nothing }) refl)
+step_calls x (Leave c) u inside = omega arith
+step_calls x (Back c) u inside = let e = ap (λ (z : ThreadRow). z.calls) (get_or-threads x.threads c u) ∙ returned_calls c (thread_at x u) in omega (arith, e)
 step_calls x (MakeOffer key) u inside = go (stage_of x.opened key)
   where
     go : (o : Option Stage) → (thread_at (if_waiting x key o).state u).calls ≡ (thread_at x u).calls + 0
@@ -137,6 +145,8 @@ entry_calls s w g scripts c r t j lt may scripted = go (c.rank == r) refl (set_p
     elsewhere (Answer u) e = refl
     elsewhere (MakeOffer key) e = refl
     elsewhere (Settle key) e = refl
+    elsewhere (Leave c) e = refl
+    elsewhere (Back c) e = refl
 
     here : (a : Act) → (c.rank == r) ≡ true → c.rank ≡ r → IsOfScript scripts (rank_at w c.rank) c.rank a → call_of r t c.rank a ++ drop (calls_at w r t + called_by t a) (script_of scripts r t) ≡ drop (calls_at w r t) (script_of scripts r t)
     here (Call u op) b q h = rw b (by_thread (u == t) refl)
@@ -150,6 +160,8 @@ entry_calls s w g scripts c r t j lt may scripted = go (c.rank == r) refl (set_p
     here (Answer u) b q h = let z : calls_at w r t + 0 ≡ calls_at w r t = omega arith in ap (λ (n : ℕ). drop n (script_of scripts r t)) z
     here (MakeOffer key) b q h = let z : calls_at w r t + 0 ≡ calls_at w r t = omega arith in ap (λ (n : ℕ). drop n (script_of scripts r t)) z
     here (Settle key) b q h = let z : calls_at w r t + 0 ≡ calls_at w r t = omega arith in ap (λ (n : ℕ). drop n (script_of scripts r t)) z
+    here (Leave d) b q h = let z : calls_at w r t + 0 ≡ calls_at w r t = omega arith in ap (λ (n : ℕ). drop n (script_of scripts r t)) z
+    here (Back d) b q h = let z : calls_at w r t + 0 ≡ calls_at w r t = omega arith in ap (λ (n : ℕ). drop n (script_of scripts r t)) z
 
     go : (b : Bool) → (c.rank == r) ≡ b → ((r ≡ c.rank) × (c.rank < length w) × (rank_at (moved w c) r ≡ (step (rank_at w c.rank) c.act).state)) ⊎ (((r ≢ c.rank) ⊎ (length w ≤ c.rank)) × (rank_at (moved w c) r ≡ rank_at w r))
         → call_of r t c.rank c.act ++ drop (calls_at (moved w c) r t) (script_of scripts r t) ≡ drop (calls_at w r t) (script_of scripts r t)

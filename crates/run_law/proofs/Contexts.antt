@@ -1,5 +1,5 @@
 -- What a context stands for at a rank, and what a key stands for.
-use Rattle.std.proofs.Common.{◌≡◌, ℕ, zero, suc, ◌+◌, ◌<◌, ◌==◌, ◌&&◌, ◌||◌, if◌then◌else◌, Bool, true, false, List, [], ◌∷◌, ◌++◌, length, get_or, set, find, position, option_map, nat_lt, Option, Some, None, bytes_eq, refl, ◌∙◌, subst, arith}
+use Rattle.std.proofs.Common.{◌≡◌, ℕ, zero, suc, ◌+◌, ◌<◌, ◌==◌, ◌&&◌, ◌||◌, if◌then◌else◌, Bool, true, false, List, [], ◌∷◌, ◌++◌, length, get_or, set, position, option_map, nat_lt, Option, Some, None, bytes_eq, refl, ◌∙◌, subst, arith}
 use Rattle.std.specs.Option.{is_some}
 use Rattle.std.proofs.lemmas.Bool.Decides.{nat_tests}
 use Rattle.mpi_base.specs.MemberLists.{has_rank}
@@ -10,7 +10,7 @@ use Rattle.mpi_base.specs.Keys.{same_key}
 use Rattle.mpi_base.proofs.KeyFacts.{same_bytes, bytes_eq-refl}
 use Rattle.mpi_law.specs.Registry.{Communicator, Creation, CreationName, Group_and_tag, Nth_dup, blank_comm, blank_creation, comm_of, in_use, is_live_at, name_by, stands_for, same_name, called_on, is_on, has_called}
 use Rattle.mpi_protocol.specs.declared.rows.CommRow.{CommRow}
-use Rattle.mpi_protocol.specs.Rank.{comm_at, with_creation, count_creation}
+use Rattle.mpi_protocol.specs.Rank.{row_at, comm_at, with_creation, count_creation}
 use Rattle.mpi_protocol.specs.Step.{key_from}
 use Rattle.run_law.proofs.Lists.{one}
 use Rattle.run_law.proofs.Rows.{or_else}
@@ -18,13 +18,13 @@ use Rattle.run_law.proofs.Rows.{or_else}
 -- Contexts
 
 -- the first place among a first item and others
-position_cons : {A : Type 0} (p : A → Bool) (x : A) (xs : List A) → position p (x ∷ xs) ≡ (if p x then Some 0 else option_map suc (position p xs))
+pub position_cons : {A : Type 0} (p : A → Bool) (x : A) (xs : List A) → position p (x ∷ xs) ≡ (if p x then Some 0 else option_map suc (position p xs))
 position_cons p x xs = grind (arith, nat_tests)
 
 -- a context is in use exactly where it stands for a communicator
 pub in_use_is : (comms : List Communicator) (r c : ℕ) → in_use comms r c ≡ is_some (comm_of comms r c)
 in_use_is [] r c = refl
-in_use_is (m ∷ ms) r c = rw (position_cons (λ q. (q.ctx == c) && is_live_at q r) m ms) (go ((m.ctx == c) && has_rank m.members r) (comm_of ms r c) (in_use_is ms r c))
+in_use_is (m ∷ ms) r c = rw (position_cons (λ q. (q.ctx == c) && is_live_at q r) m ms) (go ((m.ctx == c) && is_live_at m r) (comm_of ms r c) (in_use_is ms r c))
   where
     go : (b : Bool) (o : Option ℕ) → in_use ms r c ≡ is_some o → (b || in_use ms r c) ≡ is_some (if b then Some 0 else option_map suc o)
     go true o ih = refl
@@ -35,13 +35,13 @@ in_use_is (m ∷ ms) r c = rw (position_cons (λ q. (q.ctx == c) && is_live_at q
 pub record IsHere (comms : List Communicator) (r c p : ℕ) : Type 0 where
   pub inside : p < length comms
   pub context : (get_or comms p blank_comm).ctx ≡ c
-  pub live : has_rank (get_or comms p blank_comm).members r ≡ true
+  pub live : is_live_at (get_or comms p blank_comm) r ≡ true
 
 pub comm_of_is : (comms : List Communicator) (r c p : ℕ) → comm_of comms r c ≡ Some p → IsHere comms r c p
 comm_of_is [] r c p e = absurd (cc (e))
-comm_of_is (m ∷ ms) r c p e = go ((m.ctx == c) && has_rank m.members r) refl (comm_of ms r c) refl (comm_of_is ms r c) (rw (position_cons (λ q. (q.ctx == c) && is_live_at q r) m ms) at e)
+comm_of_is (m ∷ ms) r c p e = go ((m.ctx == c) && is_live_at m r) refl (comm_of ms r c) refl (comm_of_is ms r c) (rw (position_cons (λ q. (q.ctx == c) && is_live_at q r) m ms) at e)
   where
-    go : (b : Bool) → ((m.ctx == c) && has_rank m.members r) ≡ b → (o : Option ℕ) → comm_of ms r c ≡ o → ((q : ℕ) → o ≡ Some q → IsHere ms r c q) → (if b then Some 0 else option_map suc o) ≡ Some p → IsHere (m ∷ ms) r c p
+    go : (b : Bool) → ((m.ctx == c) && is_live_at m r) ≡ b → (o : Option ℕ) → comm_of ms r c ≡ o → ((q : ℕ) → o ≡ Some q → IsHere ms r c q) → (if b then Some 0 else option_map suc o) ≡ Some p → IsHere (m ∷ ms) r c p
     go true t o q ih h =
         let z : 0 ≡ p = cc (h) in
         subst (λ (i : ℕ). IsHere (m ∷ ms) r c i) z (record { inside = omega arith; context = grind (arith, nat_tests, t); live = grind (arith, t) })
@@ -52,13 +52,21 @@ comm_of_is (m ∷ ms) r c p e = go ((m.ctx == c) && has_rank m.members r) refl (
         let l = k.inside in
         subst (λ (i : ℕ). IsHere (m ∷ ms) r c i) z (record { inside = omega (arith, l); context = k.context; live = k.live })
 
-pub comm_of-append : (comms : List Communicator) (m : Communicator) (r c : ℕ) → comm_of (comms ++ m ∷ []) r c ≡ or_else (comm_of comms r c) (if (m.ctx == c) && has_rank m.members r then Some (length comms) else None)
-comm_of-append [] m r c = rw (position_cons (λ q. (q.ctx == c) && is_live_at q r) m []) (go ((m.ctx == c) && has_rank m.members r))
+pub has_rank-append : (ms : List ℕ) (q r : ℕ) → has_rank (ms ++ q ∷ []) r ≡ (has_rank ms r || (q == r))
+has_rank-append [] q r = grind (arith)
+has_rank-append (m ∷ ms) q r = let ih = has_rank-append ms q r in grind (arith, ih)
+
+-- a rank at which a communicator is live is a member of it
+pub live_member : (m : Communicator) (r : ℕ) → is_live_at m r ≡ true → has_rank m.members r ≡ true
+live_member m r e = grind (arith, e)
+
+pub comm_of-append : (comms : List Communicator) (m : Communicator) (r c : ℕ) → comm_of (comms ++ m ∷ []) r c ≡ or_else (comm_of comms r c) (if (m.ctx == c) && is_live_at m r then Some (length comms) else None)
+comm_of-append [] m r c = rw (position_cons (λ q. (q.ctx == c) && is_live_at q r) m []) (go ((m.ctx == c) && is_live_at m r))
   where
     go : (b : Bool) → (if b then Some 0 else option_map suc None) ≡ (if b then Some 0 else None)
     go true = refl
     go false = refl
-comm_of-append (x ∷ xs) m r c = rw (position_cons (λ q. (q.ctx == c) && is_live_at q r) x xs, position_cons (λ q. (q.ctx == c) && is_live_at q r) x (xs ++ m ∷ [])) (go ((x.ctx == c) && has_rank x.members r) ((m.ctx == c) && has_rank m.members r) (comm_of xs r c) (comm_of (xs ++ m ∷ []) r c) (comm_of-append xs m r c))
+comm_of-append (x ∷ xs) m r c = rw (position_cons (λ q. (q.ctx == c) && is_live_at q r) x xs, position_cons (λ q. (q.ctx == c) && is_live_at q r) x (xs ++ m ∷ [])) (go ((x.ctx == c) && is_live_at x r) ((m.ctx == c) && is_live_at m r) (comm_of xs r c) (comm_of (xs ++ m ∷ []) r c) (comm_of-append xs m r c))
   where
     go : (a b : Bool) (o n : Option ℕ) → n ≡ or_else o (if b then Some (length xs) else None) → (if a then Some 0 else option_map suc n) ≡ or_else (if a then Some 0 else option_map suc o) (if b then Some (suc (length xs)) else None)
     go true b o n ih = refl
@@ -70,14 +78,16 @@ comm_of-append (x ∷ xs) m r c = rw (position_cons (λ q. (q.ctx == c) && is_li
 abbrev pub Stay : List Communicator → List Communicator → ℕ → Type 0
 Stay old new r = (c p : ℕ) → comm_of old r c ≡ Some p → comm_of new r c ≡ Some p
 
+-- and the communicators stay as they are
+pub record Keeps (old new : List Communicator) (r : ℕ) : Type 0 where
+  pub stands : Stay old new r
+  pub same : (c p : ℕ) → comm_of old r c ≡ Some p → get_or new p blank_comm ≡ get_or old p blank_comm
+
 -- one more communicator at the end
 pub stay_more : (comms : List Communicator) (m : Communicator) (r : ℕ) → Stay comms (comms ++ m ∷ []) r
 stay_more comms m r c p e = comm_of-append comms m r c ∙ (rw e refl)
 
 -- Rows of communicators
-
-abbrev pub row_at : List CommRow → ℕ → Option CommRow
-row_at comms c = find (λ m. m.ctx == c) comms
 
 pub row_at-append : (comms : List CommRow) (m : CommRow) (c : ℕ) → row_at (comms ++ m ∷ []) c ≡ or_else (row_at comms c) (if m.ctx == c then Some m else None)
 row_at-append [] m c = refl
@@ -92,7 +102,7 @@ row_at-count [] d c = refl
 row_at-count (x ∷ xs) d c = go (x.ctx == d) (row_at-count xs d c)
   where
     more : CommRow
-    more = record { ctx = x.ctx; members = x.members; session = x.session; creations = x.creations + 1 }
+    more = record { ctx = x.ctx; members = x.members; session = x.session; creations = x.creations + 1; stage = x.stage }
 
     found : (t b : Bool) → (x.ctx == d) ≡ t → row_at (count_creation xs d) c ≡ option_map (with_creation d) (row_at xs c) → (if b then Some (with_creation d x) else row_at (count_creation xs d) c) ≡ option_map (with_creation d) (if b then Some x else row_at xs c)
     found t true e ih = refl

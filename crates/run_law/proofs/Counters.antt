@@ -1,5 +1,5 @@
 -- Every counter of a rank is at most the length of the journal.
-use Rattle.std.proofs.Common.{◌≡◌, ◌≢◌, ◌⊎◌, ℕ, suc, ◌+◌, ◌<◌, ◌≤◌, nat_lt, if◌then◌else◌, Bool, true, false, List, [], ◌∷◌, length, get_or, set, replicate, Option, Some, None, Result, Ok, Err, refl, sym, ap, subst, inl, inr, arith, ◌==◌}
+use Rattle.std.proofs.Common.{◌≡◌, ◌≢◌, ◌⊎◌, ℕ, suc, ◌+◌, ◌<◌, ◌≤◌, nat_lt, if◌then◌else◌, Bool, true, false, List, [], ◌∷◌, length, get_or, set, replicate, Option, Some, None, Result, Ok, Err, refl, sym, ap, subst, inl, inr, arith, ◌==◌, not, ◌∙◌}
 use Rattle.std.specs.Option.{is_some}
 use Rattle.std.proofs.lemmas.Bool.Decides.{nat_tests}
 use Rattle.std.proofs.lemmas.List.FromFn.{get_or-map-range_with_len, length-map-range_with_len}
@@ -10,18 +10,18 @@ use Rattle.mpi_base.specs.declared.ops.Op.TheVariants as op
 use Rattle.mpi_base.specs.declared.errors.ErrClass.{ErrClass}
 use Rattle.mpi_base.specs.declared.errors.ErrClass.TheVariants as class
 use Rattle.mpi_base.specs.declared.entries.Act.{Act}
-use Rattle.mpi_base.specs.declared.entries.Act.TheVariants.{Call, Answer, Offer as MakeOffer, Settle}
+use Rattle.mpi_base.specs.declared.entries.Act.TheVariants.{Call, Answer, Offer as MakeOffer, Settle, Leave, Back}
 use Rattle.mpi_base.specs.declared.entries.Choice.{Choice}
 use Rattle.mpi_base.specs.declared.entries.Entry.{Entry}
 use Rattle.mpi_law.specs.declared.setting.Setting.{Setting}
-use Rattle.mpi_law.specs.Local.{Local, Effect, Says, Joins, effect_of, refusal, begin_creation, and_then, refuse_if, as_session, as_group, as_set, set_members, lacks, bound_of, as_comm, Origin, Grouped, Duplicated}
+use Rattle.mpi_law.specs.Local.{Local, Effect, Says, Joins, Frees, effect_of, refusal, begin_creation, and_then, refuse_if, as_session, as_group, as_set, set_members, lacks, bound_of, as_comm, Origin, Grouped, Duplicated}
 use Rattle.mpi_protocol.specs.declared.rows.Outcome.TheVariants as ended
 use Rattle.mpi_protocol.specs.declared.rows.Stage.{Stage}
 use Rattle.mpi_protocol.specs.declared.rows.Stage.TheVariants.{Called, Waiting, Offered, Done}
 use Rattle.mpi_protocol.specs.declared.rows.Verdict.{Verdict}
 use Rattle.mpi_protocol.specs.declared.rows.Verdict.TheVariants as verdict
 use Rattle.mpi_protocol.specs.declared.rows.Waits.{Waits}
-use Rattle.mpi_protocol.specs.declared.rows.Waits.TheVariants.{Nothing, Creation as Creates}
+use Rattle.mpi_protocol.specs.declared.rows.Waits.TheVariants.{Nothing, Creation as Creates, Freeing, Returned}
 use Rattle.mpi_protocol.specs.declared.rows.ThreadRow.{ThreadRow}
 use Rattle.mpi_protocol.specs.Rank.{Rank, fresh, stage_of, round_of, thread_at, idle_thread, count_creation}
 use Rattle.mpi_protocol.specs.Agreement.{verdict_of}
@@ -31,13 +31,15 @@ use Rattle.mpi_protocol.specs.Run.{world_after, end_of}
 use Rattle.run_law.proofs.Runs.{get_or-replicate}
 use Rattle.std.specs.List.{AllByRecursion}
 use Rattle.run_law.proofs.Lists.{set_place, get_or_past, All_snoc, All_map}
+use Rattle.run_law.proofs.Bindings.{local_of}
+use Rattle.run_law.proofs.BackSteps.{get_or-threads, returned_calls}
+use Rattle.mpi_protocol.specs.declared.rows.CommStage.{CommStage}
+use Rattle.mpi_protocol.specs.declared.rows.CommStage.TheVariants.{Freed, Left}
+use Rattle.mpi_protocol.specs.Rank.{with_stage, set_comm_stage, drop_comm, return_threads}
 use Rattle.run_law.proofs.Rows.{round_of-set, round_of-drop}
 use Rattle.mpi_protocol.specs.declared.rows.CommRow.{CommRow}
 
 -- the counts of sessions
-abbrev local_of : Effect → Local
-local_of (Says l r) = l
-local_of (Joins l a) = l
 
 -- an operation opens at most one session
 abbrev Small : Local → Effect → Type 0
@@ -58,6 +60,7 @@ effect_small s rank busy l (op.Pset session set target) =
     small_then l (as_session (bound_of l.names session)) _ (λ from. small_then l (as_set (set_members s rank set)) _ (λ members. small_then l (refuse_if (is_some (bound_of l.names target)) class.Arg) _ (λ q. omega arith)))
 effect_small s rank busy l (op.Create group tag target) =
     small_then l (as_group (bound_of l.names group)) _ (λ g. small_then l (refuse_if (lacks g.0 rank) class.Group) _ (λ q. small_then l (refuse_if (is_some (bound_of l.names target)) class.Arg) _ (λ q'. small_then l (refuse_if (busy g.0 tag) class.Busy) _ (λ q''. begins_small l g.0 g.1 tag target))))
+effect_small s rank busy l (op.Free comm) = small_then l (as_comm (bound_of l.names comm)) _ (λ c. omega arith)
 effect_small s rank busy l (op.Dup comm target) =
     small_then l (as_comm (bound_of l.names comm)) _ (λ c. small_then l (refuse_if (is_some (bound_of l.names target)) class.Arg) _ (λ q. omega arith))
 
@@ -86,13 +89,34 @@ one_creation : (comms : List CommRow) (d n : ℕ) → AllCount n comms → AllCo
 one_creation [] d n h = tt
 one_creation (m ∷ ms) d n h = (by (m.ctx == d) h.0, one_creation ms d n h.1)
   where
-    by : (b : Bool) → m.creations ≤ n → (if b then record { ctx = m.ctx; members = m.members; session = m.session; creations = m.creations + 1 } else m).creations ≤ n + 1
+    by : (b : Bool) → m.creations ≤ n → (if b then record { ctx = m.ctx; members = m.members; session = m.session; creations = m.creations + 1; stage = m.stage } else m).creations ≤ n + 1
     by true l = omega (arith, l)
     by false l = omega (arith, l)
 
 one_counted : (x : Rank) (o : Origin) (n : ℕ) → AllCount n x.comms → AllCount (n + 1) (counted x.comms o)
 one_counted x (Grouped group tag) n h = same_comms x n h
 one_counted x (Duplicated d) n h = one_creation x.comms d n h
+
+staged_count : (x : Rank) (c : ℕ) (stage : CommStage) (n : ℕ) → AllCount n x.comms → AllCount (n + 1) (set_comm_stage x.comms c stage)
+staged_count x c stage n h = go x.comms h
+  where
+    by : (m : CommRow) → m.creations ≤ n → (with_stage c stage m).creations ≤ n + 1
+    by m l = let e : (with_stage c stage m).creations ≡ m.creations = grind (arith) in omega (arith, e, l)
+
+    go : (comms : List CommRow) → AllCount n comms → AllCount (n + 1) (set_comm_stage comms c stage)
+    go [] h = tt
+    go (m ∷ ms) h = (by m h.0, go ms h.1)
+
+dropped_count : (x : Rank) (c n : ℕ) → AllCount n x.comms → AllCount (n + 1) (drop_comm x.comms c)
+dropped_count x c n h = go x.comms h
+  where
+    go : (comms : List CommRow) → AllCount n comms → AllCount (n + 1) (drop_comm comms c)
+    go [] h = tt
+    go (m ∷ ms) h = by (m.ctx == c) (go ms h.1)
+      where
+        by : (b : Bool) → AllCount (n + 1) (drop_comm ms c) → AllCount (n + 1) (if not b then m ∷ drop_comm ms c else drop_comm ms c)
+        by true ih = ih
+        by false ih = ((let l = h.0 in omega (arith, l)), ih)
 
 -- one thread's row changes, and counts at most one call more
 changed : (x : Rank) (t u : ℕ) (a : ThreadRow) → a.calls ≤ (thread_at x t).calls + 1 → (get_or (set x.threads t a) u idle_thread).calls ≤ (thread_at x u).calls + 1
@@ -112,6 +136,7 @@ step_small x (Call t o) = go (effect_of x.setting x.rank (is_open_here x) x.loca
     go : (e : Effect) → Small x.local e → OneMore x (called x t e).state
     go (Says l r) h = record { sessions = h; calls = λ u. changed x t u _ (omega arith); creations = same_comms x; rounds = same_rounds x }
     go (Joins l q) h = record { sessions = h; calls = λ u. changed x t u _ (omega arith); creations = one_counted x q.origin; rounds = same_rounds x }
+    go (Frees l c) h = record { sessions = h; calls = λ u. changed x t u _ (omega arith); creations = staged_count x c Freed; rounds = same_rounds x }
 step_small x (Answer t) = at (thread_at x t).waits
   where
     same : OneMore x x
@@ -128,6 +153,13 @@ step_small x (Answer t) = at (thread_at x t).waits
     at : (w : Waits) → OneMore x (answered x t w).state
     at Nothing = same
     at (Creates key target session) = done key target session (stage_of x.opened key)
+    at (Freeing c) = same
+    at Returned = record { sessions = omega arith; calls = λ u. changed x t u _ (omega arith); creations = same_comms x; rounds = same_rounds x }
+step_small x (Leave c) = record { sessions = omega arith; calls = same_threads x; creations = staged_count x c Left; rounds = same_rounds x }
+step_small x (Back c) = record { sessions = omega arith; calls = λ u. returned u; creations = dropped_count x c; rounds = same_rounds x }
+  where
+    returned : (u : ℕ) → (get_or (return_threads x.threads c) u idle_thread).calls ≤ (thread_at x u).calls + 1
+    returned u = let e = ap (λ (z : ThreadRow). z.calls) (get_or-threads x.threads c u) ∙ returned_calls c (thread_at x u) in omega (arith, e)
 step_small x (MakeOffer key) = go (stage_of x.opened key)
   where
     same : OneMore x x

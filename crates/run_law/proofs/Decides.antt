@@ -10,7 +10,7 @@ use Rattle.mpi_law.specs.Registry.{Registry, RankPart, Communicator, Outcome, Wa
 use Rattle.mpi_protocol.specs.declared.rows.Stage.{Stage}
 use Rattle.mpi_protocol.specs.declared.rows.Stage.TheVariants.{Called, Waiting, Offered, Done}
 use Rattle.mpi_protocol.specs.declared.rows.Waits.{Waits}
-use Rattle.mpi_protocol.specs.declared.rows.Waits.TheVariants.{Nothing, Creation as Creates}
+use Rattle.mpi_protocol.specs.declared.rows.Waits.TheVariants.{Creation as Creates}
 use Rattle.mpi_protocol.specs.Rank.{Rank, stage_of, thread_at, waits_on}
 use Rattle.mpi_protocol.specs.World.{rank_at}
 use Rattle.run_law.proofs.Creations.{undecided_is, undecided_le}
@@ -82,7 +82,6 @@ deciding s w g r key j lt undone =
             go (thread_at (rank_at w q.rank) q.thread).waits refl (subst (λ (b : Wait). WaitFits g q.rank (rank_at w q.rank) (thread_at (rank_at w q.rank) q.thread).waits b) q.waits (fq.waits q.thread))
           where
             go : (a : Waits) → (thread_at (rank_at w q.rank) q.thread).waits ≡ a → WaitFits g q.rank (rank_at w q.rank) a (Creating m) → m ≡ v.place
-            go Nothing e h = absurd h
             go (Creates k target session) e h =
                 let named : (row_of g m).name ≡ (row_of g v.place).name = same_name_is (row_of g m).name (row_of g v.place).name (grind (arith, un)) in
                 let stands : stands_for g.comms q.rank k ≡ Some (row_of g v.place).name = h.is ∙ ap (λ (n : CreationName). Some n) named in
@@ -95,6 +94,7 @@ deciding s w g r key j lt undone =
                 let a : (thread_of g r v.thread).wait ≡ Creating m = subst (λ (i : ℕ). (thread_of g r i).wait ≡ Creating m) threads (subst (λ (i : ℕ). (thread_of g i q.thread).wait ≡ Creating m) here q.waits) in
                 let b = v.part_waits in
                 cc (a, b)
+            go a e h = absurd h
 
         other : (m : ℕ) → undecided_place g.creations (row_of g v.place).name ≡ m → undecided_place g.creations (row_of g v.place).name ≡ v.place
         other m e =
@@ -105,4 +105,4 @@ deciding s w g r key j lt undone =
             let lm : m < length g.creations = omega (arith, e, le, there) in
             let un = undecided_is g.creations (row_of g v.place).name (rw e lm) in
             let un' : is_undecided (row_of g v.place).name (row_of g m) ≡ true = rw e at un in
-            e ∙ from m lm un' (j.waited m lm (grind (arith, un')))
+            e ∙ from m lm un' (j.whole.waited m lm (grind (arith, un')))

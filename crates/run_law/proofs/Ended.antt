@@ -1,14 +1,18 @@
 -- What closed means.
-use Rattle.std.proofs.Common.{◌≡◌, ℕ, zero, suc, ◌<◌, ◌&&◌, ◌||◌, not, Bool, true, false, List, [], ◌∷◌, length, get_or, Option, Some, None, refl, sym, subst, arith, ap}
+use Rattle.std.proofs.Common.{◌≡◌, ℕ, zero, suc, ◌<◌, ◌&&◌, ◌||◌, not, Bool, true, false, List, [], ◌∷◌, length, get_or, Option, Some, None, refl, sym, subst, arith, ap, ◌==◌}
 use Rattle.std.specs.Option.{is_some, is_none}
-use Rattle.std.specs.List.{list_all, range_with_len}
+use Rattle.std.proofs.lemmas.Bool.Decides.{nat_tests}
+use Rattle.std.specs.List.{list_any, list_all, range_with_len}
 use Rattle.mpi_base.specs.declared.keys.Key.{Key}
 use Rattle.mpi_base.specs.declared.ops.Op.{Op}
 use Rattle.mpi_base.specs.declared.ops.Reply.{Reply}
 use Rattle.mpi_law.specs.declared.setting.Setting.{Setting}
 use Rattle.mpi_law.specs.ScriptLists.{AllScripts, next_op}
-use Rattle.mpi_law.specs.Registry.{Registry, Creation, MayPick, Allowed, Calls, Picks, Replies, blank_creation, has_called, is_idle_wait, owed, thread_of, undecided_place, key_place, CreationName, stands_for, place_of_name, same_name}
-use Rattle.mpi_law.specs.Closed.{is_picked_or_short, is_at_rest, is_closed}
+use Rattle.mpi_law.specs.Registry.{Registry, Creation, MayPick, Allowed, Calls, Picks, Backs, Replies, blank_creation, has_called, is_idle_wait, owed, thread_of, undecided_place, key_place, CreationName, stands_for, place_of_name, same_name}
+use Rattle.mpi_law.specs.Closed.{is_picked_or_short, is_back_or_held, is_settled, is_at_rest, is_closed}
+use Rattle.mpi_base.specs.MemberLists.{has_rank}
+use Rattle.mpi_law.specs.Registry.{blank_comm, has_open}
+use Rattle.run_law.proofs.Contexts.{comm_of_is, live_member}
 use Rattle.run_law.proofs.Lists.{all_range_at}
 use Rattle.run_law.proofs.Creations.{undecided_is}
 
@@ -21,14 +25,27 @@ halves : (a b : Bool) → (a && b) ≡ true → (a ≡ true) × (b ≡ true)
 halves true b e = (refl, e)
 halves false b e = absurd (cc (e))
 
+abbrev all_rest : Setting → AllScripts → Registry → Bool
+all_rest s scripts g = list_all (λ r. list_all (is_at_rest scripts g r) (range_with_len 0 8)) (range_with_len 0 s.ranks)
+
+abbrev all_settled : Registry → Bool
+all_settled g = list_all (is_settled g) (range_with_len 0 (length g.comms))
+
 closed_rows : (s : Setting) (scripts : AllScripts) (g : Registry) → is_closed s scripts g ≡ true → list_all is_picked_or_short g.creations ≡ true
 unfolding is_closed
-closed_rows s scripts g h = (halves (list_all is_picked_or_short g.creations) (list_all (λ r. list_all (is_at_rest scripts g r) (range_with_len 0 8)) (range_with_len 0 s.ranks)) h).0
+closed_rows s scripts g h = (halves (list_all is_picked_or_short g.creations) (all_settled g && all_rest s scripts g) h).0
+
+closed_comms : (s : Setting) (scripts : AllScripts) (g : Registry) (p : ℕ) → is_closed s scripts g ≡ true → p < length g.comms → is_settled g p ≡ true
+unfolding is_closed
+closed_comms s scripts g p h lp =
+    let rest = (halves (list_all is_picked_or_short g.creations) (all_settled g && all_rest s scripts g) h).1 in
+    all_range_at (is_settled g) 0 (length g.comms) p (halves (all_settled g) (all_rest s scripts g) rest).0 (omega arith) (omega arith)
 
 closed_threads : (s : Setting) (scripts : AllScripts) (g : Registry) (r t : ℕ) → is_closed s scripts g ≡ true → r < s.ranks → t < 8 → is_at_rest scripts g r t ≡ true
 unfolding is_closed
 closed_threads s scripts g r t h lr lt =
-    let all = (halves (list_all is_picked_or_short g.creations) (list_all (λ r. list_all (is_at_rest scripts g r) (range_with_len 0 8)) (range_with_len 0 s.ranks)) h).1 in
+    let rest = (halves (list_all is_picked_or_short g.creations) (all_settled g && all_rest s scripts g) h).1 in
+    let all = (halves (all_settled g) (all_rest s scripts g) rest).1 in
     let one = all_range_at (λ r. list_all (is_at_rest scripts g r) (range_with_len 0 8)) 0 s.ranks r all (omega arith) (omega arith) in
     all_range_at (is_at_rest scripts g r) 0 8 t one (omega arith) (omega arith)
 
@@ -64,6 +81,31 @@ no_pick s scripts g r key h m = named (stands_for g.comms r key) refl
 pub picks_end : (s : Setting) (scripts : AllScripts) (g : Registry) (r : ℕ) (key : Key) (pick : Option ℕ) → is_closed s scripts g ≡ true → Allowed s g (Picks r key pick) → ⊥
 picks_end s scripts g r key None h a = no_pick s scripts g r key h a.0
 picks_end s scripts g r key (Some c) h a = no_pick s scripts g r key h a.0
+
+member_at : (f : ℕ → Bool) (ms : List ℕ) (r : ℕ) → list_all f ms ≡ true → has_rank ms r ≡ true → f r ≡ true
+member_at f [] r h m = absurd (cc (m))
+member_at f (x ∷ xs) r h m = go (x == r) refl (member_at f xs r)
+  where
+    go : (b : Bool) → (x == r) ≡ b → (list_all f xs ≡ true → has_rank xs r ≡ true → f r ≡ true) → f r ≡ true
+    go true e ih = let is : x ≡ r = grind (arith, nat_tests, e) in subst (λ (i : ℕ). f i ≡ true) is (grind (arith, h))
+    go false e ih = ih (grind (arith, h)) (grind (arith, m, e))
+
+none_any : (f : ℕ → Bool) (ms : List ℕ) → list_all (λ m. not (f m)) ms ≡ true → list_any f ms ≡ false
+none_any f [] h = refl
+none_any f (m ∷ ms) h = let ih = none_any f ms in grind (arith, h, ih)
+
+pub backs_end : (s : Setting) (scripts : AllScripts) (g : Registry) (r c dropped : ℕ) → is_closed s scripts g ≡ true → Allowed s g (Backs r c dropped) → ⊥
+backs_end s scripts g r c dropped h a =
+    let here = comm_of_is g.comms r c a.place a.here in
+    let settled = closed_comms s scripts g a.place h here.inside in
+    let live = here.live in
+    let held = member_at (is_back_or_held g a.place) (get_or g.comms a.place blank_comm).members r settled (live_member (get_or g.comms a.place blank_comm) r live) in
+    let freed = a.freed in
+    let none = none_any (has_open g a.place) (get_or g.comms a.place blank_comm).members a.settled in
+    wrong (has_rank (get_or g.comms a.place blank_comm).returned r) (list_all (has_rank (get_or g.comms a.place blank_comm).freed) (get_or g.comms a.place blank_comm).members) (list_any (has_open g a.place) (get_or g.comms a.place blank_comm).members) (has_rank (get_or g.comms a.place blank_comm).members r) live held freed none
+  where
+    wrong : (b f o m : Bool) → (m && not b) ≡ true → (b || (not f || o)) ≡ true → f ≡ true → o ≡ false → ⊥
+    wrong b f o m l h e n = grind (arith, l, h, e, n)
 
 pub replies_end : (s : Setting) (scripts : AllScripts) (g : Registry) (r t : ℕ) (said : Reply) → is_closed s scripts g ≡ true → r < s.ranks → t < 8 → Allowed s g (Replies r t said) → ⊥
 replies_end s scripts g r t said h lr lt a =

@@ -1,5 +1,5 @@
 -- How the registry's part of a rank and the rank's own state belong together.
-use Rattle.std.proofs.Common.{◌≡◌, ◌≤◌, ℕ, ◌<◌, ◌==◌, ◌&&◌, not, if◌then◌else◌, nat_lt, nat_le, Bool, true, false, List, [], ◌∷◌, length, get_or, Option, Some, None}
+use Rattle.std.proofs.Common.{◌≡◌, ◌≤◌, ℕ, ◌<◌, ◌==◌, ◌&&◌, not, if◌then◌else◌, nat_lt, nat_le, Bool, true, false, List, [], ◌∷◌, length, get_or, bytes_eq, ◌+◌, Option, Some, None}
 use Rattle.std.specs.Option.{is_some, is_none}
 use Rattle.std.specs.List.{AllByRecursion}
 use Rattle.mpi_base.specs.declared.keys.Key.{Key}
@@ -8,23 +8,27 @@ use Rattle.mpi_law.specs.declared.rows.Bound.TheVariants as bound
 use Rattle.mpi_law.specs.declared.rows.NameRow.{NameRow}
 use Rattle.mpi_law.specs.declared.setting.Setting.{Setting}
 use Rattle.mpi_law.specs.Local.{Local}
-use Rattle.mpi_law.specs.Registry.{Registry, RankPart, Communicator, Creation, Outcome, Made, NoneFree, Wait, Idle, Reply_now, Creating, blank_comm, blank_creation, idle_thread as idle_part, in_use, comm_of, stands_for, called_on, caller_of, has_called, thread_of, part_of}
+use Rattle.mpi_law.specs.Registry.{Registry, RankPart, Communicator, Creation, Outcome, Made, NoneFree, Wait, Idle, Creating, Freeing, LiveApart, blank_comm, blank_creation, idle_thread as idle_part, in_use, comm_of, stands_for, called_on, caller_of, has_called, thread_of, part_of}
 use Rattle.mpi_protocol.specs.declared.rows.Stage.{Stage}
 use Rattle.mpi_protocol.specs.declared.rows.Stage.TheVariants.{Called, Waiting, Offered, Done}
 use Rattle.mpi_protocol.specs.declared.rows.Outcome.TheVariants as ended
 use Rattle.mpi_protocol.specs.declared.rows.Waits.{Waits}
-use Rattle.mpi_protocol.specs.declared.rows.Waits.TheVariants.{Nothing, Creation as Creates}
-use Rattle.mpi_protocol.specs.Rank.{Rank, Offer, stage_of, round_of, thread_at, waits_on}
+use Rattle.mpi_protocol.specs.declared.rows.Waits.TheVariants.{Nothing, Creation as Creates, Freeing as Frees, Returned}
+use Rattle.mpi_protocol.specs.Rank.{Rank, Offer, stage_of, round_of, thread_at, waits_on, row_at}
 use Rattle.mpi_protocol.specs.Agreement.{is_key, has_offer}
 use Rattle.mpi_protocol.specs.declared.rows.CommRow.{CommRow}
+use Rattle.mpi_protocol.specs.declared.rows.CommStage.{CommStage}
+use Rattle.mpi_protocol.specs.declared.rows.CommStage.TheVariants.{Live, Freed, Left}
+use Rattle.mpi_protocol.specs.Step.{is_left, has_none_open}
+use Rattle.mpi_base.specs.MemberLists.{has_rank}
 use Rattle.mpi_protocol.specs.World.{rank_at}
 use Rattle.run_law.proofs.Lists.{tally, one}
-use Rattle.run_law.proofs.Contexts.{row_at, is_numbered}
+use Rattle.run_law.proofs.Contexts.{is_numbered}
 
 -- Names
 
--- one name: the context that the rank knows stands for the communicator at a place of the registry's list; a group is
--- the rank alone
+-- one name: the context that the rank knows stands for the communicator at a place of the registry's list, which the
+-- rank has not freed; a group is the rank alone
 abbrev pub BoundFits : List Communicator → ℕ → Bound → Bound → Type 0
 BoundFits comms r bound.Reserved bound.Reserved = Unit {0}
 BoundFits comms r bound.Reserved (bound.Session s) = ⊥
@@ -41,7 +45,7 @@ BoundFits comms r (bound.Group ms s) (bound.Comm c q) = ⊥
 BoundFits comms r (bound.Comm c s) bound.Reserved = ⊥
 BoundFits comms r (bound.Comm c s) (bound.Session q) = ⊥
 BoundFits comms r (bound.Comm c s) (bound.Group ms q) = ⊥
-BoundFits comms r (bound.Comm c s) (bound.Comm p q) = (q ≡ s) × (comm_of comms r c ≡ Some p)
+BoundFits comms r (bound.Comm c s) (bound.Comm p q) = (q ≡ s) × (comm_of comms r c ≡ Some p) × (has_rank (get_or comms p blank_comm).freed r ≡ false)
 
 abbrev pub NamesFit : List Communicator → ℕ → List NameRow → List NameRow → Type 0
 NamesFit comms r [] [] = Unit {0}
@@ -65,10 +69,37 @@ StageFits comms r group (Some (Waiting i)) (Some o) = ⊥
 StageFits comms r group (Some (Offered i own)) None = Unit {0}
 StageFits comms r group (Some (Offered i own)) (Some o) = ⊥
 StageFits comms r group (Some (Done d)) None = ⊥
-StageFits comms r group (Some (Done (ended.Context c))) (Some (Made p)) = (comm_of comms r c ≡ Some p) × (get_or comms p blank_comm ≡ record { ctx = c; members = group })
+StageFits comms r group (Some (Done (ended.Context c))) (Some (Made p)) = (comm_of comms r c ≡ Some p) × ((get_or comms p blank_comm).members ≡ group) × (has_rank (get_or comms p blank_comm).freed r ≡ false)
 StageFits comms r group (Some (Done (ended.Context c))) (Some NoneFree) = ⊥
 StageFits comms r group (Some (Done ended.Exhausted)) (Some (Made p)) = ⊥
 StageFits comms r group (Some (Done ended.Exhausted)) (Some NoneFree) = Unit {0}
+
+-- whether a name is bound to the communicator with this context, or is this one
+abbrev pub is_comm : ℕ → Bound → Bool
+is_comm c bound.Reserved = false
+is_comm c (bound.Session s) = false
+is_comm c (bound.Group ms s) = false
+is_comm c (bound.Comm d s) = d == c
+
+abbrev pub binds : ℕ → NameRow → Bool
+binds c row = is_comm c row.bound
+
+abbrev pub is_name : List ℕ → NameRow → Bool
+is_name name row = bytes_eq row.name name
+
+-- each name is bound once, and each communicator by one name
+pub record NamesApart (names : List NameRow) : Type 0 where
+  pub each : (n : List ℕ) → tally (is_name n) names ≤ 1
+  pub comms : (c : ℕ) → tally (binds c) names ≤ 1
+
+-- no name is bound yet to the communicator of a creation that is decided
+abbrev pub Unbound : List NameRow → Option Stage → Type 0
+Unbound names None = Unit {0}
+Unbound names (Some Called) = Unit {0}
+Unbound names (Some (Waiting i)) = Unit {0}
+Unbound names (Some (Offered i own)) = Unit {0}
+Unbound names (Some (Done (ended.Context c))) = tally (binds c) names ≡ 0
+Unbound names (Some (Done ended.Exhausted)) = Unit {0}
 
 abbrev pub row_of : Registry → ℕ → Creation
 row_of g n = get_or g.creations n blank_creation
@@ -83,17 +114,26 @@ pub record CreationFits (g : Registry) (r : ℕ) (x : Rank) (key : Key) (target 
   pub called : has_called (row_of g n) r ≡ true
   pub target_is : (caller_of (row_of g n).callers r).target ≡ target
   pub session_is : (caller_of (row_of g n).callers r).session ≡ session
+  pub unbound : Unbound x.local.names (stage_of x.opened key)
   pub stage : StageFits g.comms r (row_of g n).group (stage_of x.opened key) (row_of g n).outcome
+
+-- a thread that waits for a give-back waits for that of the communicator at this place
+abbrev pub FreeFits : List Communicator → ℕ → ℕ → ℕ → Type 0
+FreeFits comms r c p = (comm_of comms r c ≡ Some p) × (has_rank (get_or comms p blank_comm).freed r ≡ true)
 
 abbrev pub WaitFits : Registry → ℕ → Rank → Waits → Wait → Type 0
 WaitFits g r x Nothing Idle = Unit {0}
-WaitFits g r x Nothing (Reply_now said) = ⊥
-WaitFits g r x Nothing (Creating n) = ⊥
-WaitFits g r x (Creates key target session) Idle = ⊥
-WaitFits g r x (Creates key target session) (Reply_now said) = ⊥
 WaitFits g r x (Creates key target session) (Creating n) = CreationFits g r x key target session n
+WaitFits g r x (Frees c) (Freeing p) = FreeFits g.comms r c p
+WaitFits g r x Returned (Freeing p) = has_rank (get_or g.comms p blank_comm).returned r ≡ true
+WaitFits g r x _ _ = ⊥
 
 -- Communicators
+
+abbrev pub is_live : CommStage → Bool
+is_live Live = true
+is_live Freed = false
+is_live Left = false
 
 -- what a rank knows of a communicator of its own, which has no other member
 abbrev pub CommFits : Registry → ℕ → Option CommRow → Option ℕ → Type 0
@@ -102,6 +142,7 @@ CommFits g r None (Some p) = ⊥
 CommFits g r (Some m) None = ⊥
 CommFits g r (Some m) (Some p) =
     (m.members ≡ (get_or g.comms p blank_comm).members) × (m.members ≡ r ∷ []) × (m.creations ≡ called_on g.creations p r)
+    × (is_live m.stage ≡ not (has_rank (get_or g.comms p blank_comm).freed r))
 
 -- The agreement
 
@@ -154,7 +195,11 @@ pub record RankFits (s : Setting) (g : Registry) (r : ℕ) (x : Rank) (p : RankP
   pub offers : AllByRecursion (OfferFits x) x.gathered
   pub held : (k : Key) → is_away (stage_of x.opened k) ≡ true → has_offer x.gathered k 0 ≡ true
   pub owner : (k : Key) → is_key x.owner k ≡ true → is_owned (stage_of x.opened k) ≡ true
+  pub names : NamesApart x.local.names
   pub comms : (c : ℕ) → CommFits g r (row_at x.comms c) (comm_of g.comms r c)
+  pub left : (c : ℕ) (m : CommRow) → row_at x.comms c ≡ Some m → is_left m.stage ≡ true → has_none_open x.opened c ≡ true
+  pub range : (c : ℕ) → is_some (comm_of g.comms r c) ≡ true → (1 ≤ c) × (c ≤ s.contexts)
+  pub wide : length x.mask ≡ s.contexts + 1
   pub mask : (c : ℕ) → get_or x.mask c false ≡ (nat_lt 0 c && (nat_le c s.contexts && not (in_use g.comms r c)))
 
 -- a creation without an outcome has a thread that waits for it
@@ -165,9 +210,23 @@ pub record Waited (s : Setting) (g : Registry) (n : ℕ) : Type 0 where
   pub thread_in : thread < 8
   pub waits : (thread_of g rank thread).wait ≡ Creating n
 
+-- a communicator has one member
+pub record Owned (s : Setting) (m : Communicator) : Type 0 where
+  pub rank : ℕ
+  pub rank_in : rank < s.ranks
+  pub alone : m.members ≡ rank ∷ []
+
+-- what holds of the registry as a whole
+pub record Whole (s : Setting) (g : Registry) : Type 0 where
+  pub waited : (n : ℕ) → n < length g.creations → is_none (row_of g n).outcome ≡ true → Waited s g n
+  pub placed : (p r : ℕ) → length g.comms ≤ p → called_on g.creations p r ≡ 0
+  pub apart : LiveApart g
+  pub owned : (p : ℕ) → p < length g.comms → Owned s (get_or g.comms p blank_comm)
+  pub made_inside : (n p : ℕ) → (row_of g n).outcome ≡ Some (Made p) → p < length g.comms
+  pub made_once : (n m p : ℕ) → (row_of g n).outcome ≡ Some (Made p) → (row_of g m).outcome ≡ Some (Made p) → n ≡ m
+
 pub record Joined (s : Setting) (w : List Rank) (g : Registry) : Type 0 where
   pub size : length w ≡ s.ranks
   pub parts : length g.ranks ≡ s.ranks
   pub fits : (r : ℕ) → r < s.ranks → RankFits s g r (rank_at w r) (part_of g r)
-  pub waited : (n : ℕ) → n < length g.creations → is_none (row_of g n).outcome ≡ true → Waited s g n
-  pub placed : (p r : ℕ) → length g.comms ≤ p → called_on g.creations p r ≡ 0
+  pub whole : Whole s g

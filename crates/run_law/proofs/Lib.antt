@@ -1,8 +1,10 @@
 pub mod Lists
 pub mod Rows
 pub mod Contexts
+pub mod Apart
 pub mod Creations
 pub mod Fits
+pub mod Bindings
 pub mod Names
 pub mod Grown
 pub mod Own
@@ -14,10 +16,12 @@ pub mod Picks
 pub mod SettleSteps
 pub mod Threads
 pub mod AnswerSteps
+pub mod Changes
 pub mod Asking
+pub mod FreeSteps
+pub mod BackSteps
 pub mod CallSteps
 pub mod Runs
-pub mod Apart
 pub mod Quiet
 pub mod Ended
 pub mod Solos

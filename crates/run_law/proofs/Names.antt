@@ -1,5 +1,5 @@
 -- What a call of an operation does, at a rank and in the registry.
-use Rattle.std.proofs.Common.{◌≡◌, ℕ, ◌+◌, not, if◌then◌else◌, Bool, true, false, List, [], ◌∷◌, find, option_map, Option, Some, None, Result, Ok, bytes_eq, refl, sym, ap, subst, arith}
+use Rattle.std.proofs.Common.{◌≡◌, ℕ, ◌+◌, not, if◌then◌else◌, Bool, true, false, List, [], ◌∷◌, find, option_map, Option, Some, None, Result, Ok, bytes_eq, refl, sym, ap, subst, arith, ◌∙◌, get_or}
 use Rattle.std.specs.Option.{is_some}
 use Rattle.std.proofs.lemmas.Bool.Decides.{nat_tests}
 use Rattle.mpi_base.specs.declared.ops.Op.{Op}
@@ -13,10 +13,14 @@ use Rattle.mpi_law.specs.declared.rows.Bound.TheVariants as bound
 use Rattle.mpi_law.specs.declared.rows.NameRow.{NameRow}
 use Rattle.mpi_law.specs.declared.setting.Setting.{Setting}
 use Rattle.mpi_law.specs.ScriptLists.{is_built, self_set}
-use Rattle.mpi_law.specs.Local.{Local, Effect, Says, Joins, Origin, Grouped, Duplicated, ask, as_comm, call_dup, effect_of, refusal, call_session, call_pset, call_create, begin_creation, and_then, refuse_if, as_session, as_group, lacks, bound_of, bind, rebind, unbind}
-use Rattle.mpi_law.specs.Registry.{Communicator, comm_of}
-use Rattle.run_law.proofs.Contexts.{Stay}
-use Rattle.run_law.proofs.Fits.{BoundFits, NamesFit, LocalFits}
+use Rattle.mpi_law.specs.Local.{Local, Effect, Says, Joins, Frees, call_free, Origin, Grouped, Duplicated, ask, as_comm, call_dup, effect_of, refusal, call_session, call_pset, call_create, begin_creation, and_then, refuse_if, as_session, as_group, lacks, bound_of, bind, rebind, unbind}
+use Rattle.mpi_law.specs.Registry.{Communicator, blank_comm, comm_of}
+use Rattle.run_law.proofs.Contexts.{Keeps}
+use Rattle.run_law.proofs.Fits.{BoundFits, NamesFit, LocalFits, NamesApart, binds}
+use Rattle.run_law.proofs.Bindings.{unbinds}
+use Rattle.run_law.proofs.Lists.{tally}
+use Rattle.mpi_base.specs.MemberLists.{has_rank}
+use Rattle.std.specs.List.{list_all}
 
 -- what a name is bound to, on both sides
 pub data BothBound (comms : List Communicator) (r : ℕ) : Option Bound → Option Bound → Type 0 where
@@ -62,19 +66,26 @@ NamesFit-unbind comms r (x ∷ xs) (y ∷ ys) name h =
     go true ih = ih
     go false ih = (h.0, h.1, ih)
 
--- contexts that go on to stand for their communicators keep the names fitting
-pub NamesFit-grown : (old new : List Communicator) (r : ℕ) (xs ys : List NameRow) → Stay old new r → NamesFit old r xs ys → NamesFit new r xs ys
-NamesFit-grown old new r [] [] f h = tt
-NamesFit-grown old new r [] (y ∷ ys) f h = absurd h
-NamesFit-grown old new r (x ∷ xs) [] f h = absurd h
-NamesFit-grown old new r (x ∷ xs) (y ∷ ys) f h = (h.0, go x.bound y.bound h.1, NamesFit-grown old new r xs ys f h.2)
+-- names go on to fit where what each is bound to does
+pub NamesFit-kept : (old new : List Communicator) (r : ℕ) (ok : Bound → Bool) (xs ys : List NameRow) → ((a b : Bound) → ok a ≡ true → BoundFits old r a b → BoundFits new r a b) → list_all (λ (q : NameRow). ok q.bound) xs ≡ true → NamesFit old r xs ys → NamesFit new r xs ys
+NamesFit-kept old new r ok [] [] f o h = tt
+NamesFit-kept old new r ok [] (y ∷ ys) f o h = absurd h
+NamesFit-kept old new r ok (x ∷ xs) [] f o h = absurd h
+NamesFit-kept old new r ok (x ∷ xs) (y ∷ ys) f o h = (h.0, f x.bound y.bound (grind (arith, o)) h.1, NamesFit-kept old new r ok xs ys f (grind (arith, o)) h.2)
+
+BoundFits-kept : (old new : List Communicator) (r : ℕ) → Keeps old new r → (a b : Bound) → BoundFits old r a b → BoundFits new r a b
+BoundFits-kept old new r f bound.Reserved bound.Reserved k = tt
+BoundFits-kept old new r f (bound.Session s) (bound.Session q) k = k
+BoundFits-kept old new r f (bound.Group ms s) (bound.Group ns q) k = k
+BoundFits-kept old new r f (bound.Comm c s) (bound.Comm p q) k = (k.0, f.stands c p k.1, ap (λ (m : Communicator). has_rank m.freed r) (f.same c p k.1) ∙ k.2)
+BoundFits-kept old new r f a b k = absurd k
+
+pub NamesFit-grown : (old new : List Communicator) (r : ℕ) (xs ys : List NameRow) → Keeps old new r → NamesFit old r xs ys → NamesFit new r xs ys
+NamesFit-grown old new r xs ys f h = NamesFit-kept old new r (λ a. true) xs ys (λ a b t k. BoundFits-kept old new r f a b k) (all_true xs) h
   where
-    go : (a b : Bound) → BoundFits old r a b → BoundFits new r a b
-    go bound.Reserved bound.Reserved k = tt
-    go (bound.Session s) (bound.Session q) k = k
-    go (bound.Group ms s) (bound.Group ns q) k = k
-    go (bound.Comm c s) (bound.Comm p q) k = (k.0, f c p k.1)
-    go a b k = absurd k
+    all_true : (xs : List NameRow) → list_all (λ (q : NameRow). true) xs ≡ true
+    all_true [] = refl
+    all_true (x ∷ xs) = all_true xs
 
 -- what a creation comes from, on both sides: a group that is the rank alone, with no creation of this tag open; or a
 -- context, and the communicator that it stands for
@@ -82,14 +93,15 @@ abbrev pub OriginFits : List Communicator → ℕ → (List ℕ → List ℕ →
 OriginFits comms r busy (Grouped g t) (Grouped h u) = (h ≡ g) × (u ≡ t) × (g ≡ r ∷ []) × (busy g t ≡ false)
 OriginFits comms r busy (Grouped g t) (Duplicated p) = ⊥
 OriginFits comms r busy (Duplicated c) (Grouped h u) = ⊥
-OriginFits comms r busy (Duplicated c) (Duplicated p) = comm_of comms r c ≡ Some p
+OriginFits comms r busy (Duplicated c) (Duplicated p) = (comm_of comms r c ≡ Some p) × (has_rank (get_or comms p blank_comm).freed r ≡ false)
 
 -- what a call does on both sides
 abbrev pub EffectFits : List Communicator → ℕ → (List ℕ → List ℕ → Bool) → Effect → Effect → Type 0
 EffectFits comms r busy (Says l a) (Says m b) = LocalFits comms r l m × (b ≡ a)
-EffectFits comms r busy (Says l a) (Joins m b) = ⊥
-EffectFits comms r busy (Joins l a) (Says m b) = ⊥
 EffectFits comms r busy (Joins l a) (Joins m b) = LocalFits comms r l m × (b.target ≡ a.target) × (b.session ≡ a.session) × OriginFits comms r busy a.origin b.origin
+EffectFits comms r busy (Frees l c) (Frees m p) =
+    LocalFits comms r l m × (comm_of comms r c ≡ Some p) × (has_rank (get_or comms p blank_comm).freed r ≡ false) × (tally (binds c) l.names ≡ 0)
+EffectFits comms r busy _ _ = ⊥
 
 bound_same : {comms : List Communicator} {r : ℕ} {a b : Option Bound} → BothBound comms r a b → is_some b ≡ is_some a
 bound_same neither = refl
@@ -175,18 +187,36 @@ comm_fits comms r busy l m fits target taken (both (bound.Session s) (bound.Sess
 comm_fits comms r busy l m fits target taken (both (bound.Group ms s) (bound.Group ns q) h) = (fits, refl)
 comm_fits comms r busy l m fits target true (both (bound.Comm c s) (bound.Comm p q) h) = (fits, refl)
 comm_fits comms r busy l m fits target false (both (bound.Comm c s) (bound.Comm p q) h) =
-    (record { sessions = fits.sessions; names = NamesFit-bind comms r l.names m.names target bound.Reserved bound.Reserved fits.names tt }, refl, h.0, h.1)
+    (record { sessions = fits.sessions; names = NamesFit-bind comms r l.names m.names target bound.Reserved bound.Reserved fits.names tt }, refl, h.0, (h.1, h.2))
 comm_fits comms r busy l m fits target taken (both a b h) = absurd h
 
 dup_fits : (comms : List Communicator) (r : ℕ) (busy : List ℕ → List ℕ → Bool) (l m : Local) → LocalFits comms r l m → (comm target : List ℕ) → EffectFits comms r busy (refusal l (call_dup l comm target)) (refusal m (call_dup m comm target))
 dup_fits comms r busy l m fits comm target =
     rw (same_bound comms r l m fits target) (comm_fits comms r busy l m fits target (is_some (bound_of l.names target)) (bound_fits comms r l.names m.names comm fits.names))
 
+-- frees
+abbrev from_name : Local → List ℕ → Option Bound → Effect
+from_name l comm o = refusal l (and_then (as_comm o) (λ c. Ok (Frees (record { names = unbind l.names comm; sessions = l.sessions }) c.0)))
+
+name_fits : (comms : List Communicator) (r : ℕ) (busy : List ℕ → List ℕ → Bool) (l m : Local) → LocalFits comms r l m → NamesApart l.names → (comm : List ℕ) (a b : Option Bound) → bound_of l.names comm ≡ a → BothBound comms r a b
+    → EffectFits comms r busy (from_name l comm a) (from_name m comm b)
+name_fits comms r busy l m fits apart comm a b e neither = (fits, refl)
+name_fits comms r busy l m fits apart comm a b e (both bound.Reserved bound.Reserved h) = (fits, refl)
+name_fits comms r busy l m fits apart comm a b e (both (bound.Session s) (bound.Session q) h) = (fits, refl)
+name_fits comms r busy l m fits apart comm a b e (both (bound.Group ms s) (bound.Group ns q) h) = (fits, refl)
+name_fits comms r busy l m fits apart comm a b e (both (bound.Comm c s) (bound.Comm p q) h) =
+    (record { sessions = fits.sessions; names = NamesFit-unbind comms r l.names m.names comm fits.names }, h.1, h.2, unbinds l.names comm c s e (apart.comms c))
+name_fits comms r busy l m fits apart comm a b e (both x y h) = absurd h
+
+free_fits : (comms : List Communicator) (r : ℕ) (busy : List ℕ → List ℕ → Bool) (l m : Local) → LocalFits comms r l m → NamesApart l.names → (comm : List ℕ) → EffectFits comms r busy (refusal l (call_free l comm)) (refusal m (call_free m comm))
+free_fits comms r busy l m fits apart comm = name_fits comms r busy l m fits apart comm (bound_of l.names comm) (bound_of m.names comm) refl (bound_fits comms r l.names m.names comm fits.names)
+
 -- what any built operation does
-pub effect_fits : (s : Setting) (comms : List Communicator) (r : ℕ) (busy open_at : List ℕ → List ℕ → Bool) → ((group tag : List ℕ) → open_at group tag ≡ busy group tag) → (l m : Local) → LocalFits comms r l m → (o : Op) → is_built o ≡ true
+pub effect_fits : (s : Setting) (comms : List Communicator) (r : ℕ) (busy open_at : List ℕ → List ℕ → Bool) → ((group tag : List ℕ) → open_at group tag ≡ busy group tag) → (l m : Local) → LocalFits comms r l m → NamesApart l.names → (o : Op) → is_built o ≡ true
     → EffectFits comms r busy (effect_of s r busy l o) (effect_of s r open_at m o)
 unfolding effect_of
-effect_fits s comms r busy open_at agree l m fits (op.Session target) b = session_fits comms r busy l m fits target
-effect_fits s comms r busy open_at agree l m fits (op.Pset session set target) b = pset_fits s comms r busy l m fits session set target b
-effect_fits s comms r busy open_at agree l m fits (op.Create group tag target) b = create_fits comms r busy open_at agree l m fits group tag target
-effect_fits s comms r busy open_at agree l m fits (op.Dup comm target) b = dup_fits comms r busy l m fits comm target
+effect_fits s comms r busy open_at agree l m fits apart (op.Session target) b = session_fits comms r busy l m fits target
+effect_fits s comms r busy open_at agree l m fits apart (op.Pset session set target) b = pset_fits s comms r busy l m fits session set target b
+effect_fits s comms r busy open_at agree l m fits apart (op.Create group tag target) b = create_fits comms r busy open_at agree l m fits group tag target
+effect_fits s comms r busy open_at agree l m fits apart (op.Dup comm target) b = dup_fits comms r busy l m fits comm target
+effect_fits s comms r busy open_at agree l m fits apart (op.Free comm) b = free_fits comms r busy l m fits apart comm

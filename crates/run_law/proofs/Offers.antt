@@ -7,18 +7,20 @@ use Rattle.mpi_base.specs.declared.keys.Key.{Key}
 use Rattle.mpi_base.specs.Keys.{same_key}
 use Rattle.mpi_base.proofs.KeyFacts.{same_key_is, same_key-refl}
 use Rattle.mpi_law.specs.declared.setting.Setting.{Setting}
-use Rattle.mpi_law.specs.Registry.{Registry, RankPart, Communicator, Outcome, Wait, Idle, Reply_now, Creating, idle_thread as idle_part, place_in}
+use Rattle.mpi_law.specs.Registry.{Registry, RankPart, Communicator, Outcome, Wait, Idle, Creating, Freeing, idle_thread as idle_part, place_in}
 use Rattle.mpi_protocol.specs.declared.rows.Stage.{Stage}
 use Rattle.mpi_protocol.specs.declared.rows.Stage.TheVariants.{Called, Waiting, Offered, Done}
 use Rattle.mpi_protocol.specs.declared.rows.Waits.{Waits}
-use Rattle.mpi_protocol.specs.declared.rows.Waits.TheVariants.{Nothing, Creation as Creates}
+use Rattle.mpi_protocol.specs.declared.rows.Waits.TheVariants.{Nothing, Creation as Creates, Freeing as Frees, Returned}
 use Rattle.mpi_protocol.specs.declared.rows.CreationRow.{CreationRow}
 use Rattle.mpi_protocol.specs.Rank.{Rank, Offer, stage_of, round_of, thread_at, set_stage}
 use Rattle.mpi_protocol.specs.Agreement.{is_key, may_own, is_first, has_offer, is_least}
 use Rattle.mpi_protocol.specs.Step.{gather, empty_mask, offered, is_due}
 use Rattle.run_law.proofs.Lists.{one, All_map, All_snoc}
 use Rattle.run_law.proofs.Rows.{stage_of-set, has_offer-append}
-use Rattle.run_law.proofs.Fits.{StageFits, row_of, WaitFits, RankFits, OfferFits, offer_fits, round_fits, is_away, is_owned}
+use Rattle.mpi_law.specs.declared.rows.NameRow.{NameRow}
+use Rattle.mpi_protocol.specs.Step.{has_none_open}
+use Rattle.run_law.proofs.Fits.{Unbound, StageFits, row_of, WaitFits, RankFits, OfferFits, offer_fits, round_fits, is_away, is_owned}
 use Rattle.run_law.proofs.Own.{own_members}
 
 -- Stages in which nothing is decided
@@ -53,8 +55,21 @@ StageFits-undone comms r group (Some (Offered i own)) (Offered j own') None u v 
 StageFits-undone comms r group (Some (Offered i own)) (Done d) None u v h = absurd (cc (v))
 StageFits-undone comms r group (Some (Offered i own)) b (Some o) u v h = absurd h
 
+-- and no name is bound to it
+undone_unbound : (names : List NameRow) (s : Stage) → is_undone (Some s) ≡ true → Unbound names (Some s)
+undone_unbound names Called u = tt
+undone_unbound names (Waiting i) u = tt
+undone_unbound names (Offered i own) u = tt
+undone_unbound names (Done d) u = absurd (cc (u))
+
+-- a stage that changes opens no creation
+pub stay_open : (opened : List CreationRow) (key : Key) (s : Stage) (c : ℕ) → has_none_open opened c ≡ true → has_none_open (set_stage opened key s) c ≡ true
+unfolding has_none_open
+stay_open [] key s c h = refl
+stay_open (o ∷ os) key s c h = let ih = stay_open os key s c in grind (arith, h, ih)
+
 -- one key goes from one such stage to another: what threads wait for goes on to fit
-module _ (g : Registry) (r : ℕ) (x y : Rank) (key : Key) (b : Stage) (undone : is_undone (stage_of x.opened key) ≡ true) (next : is_undone (Some b) ≡ true) (opened : y.opened ≡ set_stage x.opened key b) (comms : y.comms ≡ x.comms) where
+module _ (g : Registry) (r : ℕ) (x y : Rank) (key : Key) (b : Stage) (undone : is_undone (stage_of x.opened key) ≡ true) (next : is_undone (Some b) ≡ true) (opened : y.opened ≡ set_stage x.opened key b) (comms : y.comms ≡ x.comms) (named : y.local.names ≡ x.local.names) where
   pub stages : (k : Key) → stage_of y.opened k ≡ (if same_key key k then Some b else stage_of x.opened k)
   stages k = ap (λ (os : List CreationRow). stage_of os k) opened ∙ (stage_of-set x.opened key b k ∙ go (same_key key k) refl)
     where
@@ -71,10 +86,8 @@ module _ (g : Registry) (r : ℕ) (x y : Rank) (key : Key) (b : Stage) (undone :
 
   pub waits_on_undone : (p : Waits) (q : Wait) → WaitFits g r x p q → WaitFits g r y p q
   waits_on_undone Nothing Idle h = tt
-  waits_on_undone Nothing (Reply_now said) h = absurd h
-  waits_on_undone Nothing (Creating n) h = absurd h
-  waits_on_undone (Creates k target session) Idle h = absurd h
-  waits_on_undone (Creates k target session) (Reply_now said) h = absurd h
+  waits_on_undone (Frees c) (Freeing p) h = h
+  waits_on_undone Returned (Freeing p) h = h
   waits_on_undone (Creates k target session) (Creating n) h = record {
     there = h.there;
     is = h.is;
@@ -84,14 +97,20 @@ module _ (g : Registry) (r : ℕ) (x y : Rank) (key : Key) (b : Stage) (undone :
     called = h.called;
     target_is = h.target_is;
     session_is = h.session_is;
+    unbound = rw (stages k) (free (same_key key k) h.unbound);
     stage = rw (stages k) (go (same_key key k) refl);
   }
     where
+      free : (t : Bool) → Unbound x.local.names (stage_of x.opened k) → Unbound y.local.names (if t then Some b else stage_of x.opened k)
+      free true u = undone_unbound y.local.names b next
+      free false u = subst (λ (names : List NameRow). Unbound names (stage_of x.opened k)) (sym named) u
+
       go : (t : Bool) → same_key key k ≡ t → StageFits g.comms r (row_of g n).group (if t then Some b else stage_of x.opened k) (row_of g n).outcome
       go true e =
           let is = same_key_is key k e in
           StageFits-undone g.comms r (row_of g n).group (stage_of x.opened k) b (row_of g n).outcome (subst (λ (q : Key). is_undone (stage_of x.opened q) ≡ true) is undone) next h.stage
       go false e = h.stage
+  waits_on_undone p q h = absurd h
 
   pub same_some : (k : Key) → is_some (stage_of y.opened k) ≡ is_some (stage_of x.opened k)
   same_some k = ap is_some (stages k) ∙ go (same_key key k) refl
@@ -129,7 +148,7 @@ offer_kept s g r x p key i stage f =
     let members = own_members s g r x p f key (ap is_some stage) in
     let own = may_own x key in
     let y = (offered x key i).state in
-    let st = stages g r x y key (Offered i own) undone refl refl refl in
+    let st = stages g r x y key (Offered i own) undone refl refl refl refl in
     let gathered : y.gathered ≡ x.gathered ++ record { key = key; place = 0; own = own; mask = if own then x.mask else empty_mask x } ∷ [] = gathers x r key own (if own then x.mask else empty_mask x) f.rank members in
     record {
       rank = f.rank;
@@ -138,13 +157,17 @@ offer_kept s g r x p key i stage f =
       long = f.long;
       long_part = f.long_part;
       calls = f.calls;
-      waits = λ t. waits_on_undone g r x y key (Offered i own) undone refl refl refl (thread_at x t).waits (get_or p.threads t idle_part).wait (f.waits t);
-      waiter = λ k. f.waiter k ∙ ap one (sym (same_some g r x y key (Offered i own) undone refl refl refl k));
+      waits = λ t. waits_on_undone g r x y key (Offered i own) undone refl refl refl refl (thread_at x t).waits (get_or p.threads t idle_part).wait (f.waits t);
+      waiter = λ k. f.waiter k ∙ ap one (sym (same_some g r x y key (Offered i own) undone refl refl refl refl k));
       rounds = λ k. (let q = st k in let old = f.rounds k in rw q (round_at k (same_key key k) refl old (may_own x key)));
       offers = subst (λ (os : List Offer). AllByRecursion (OfferFits y) os) (sym gathered) (All_snoc (OfferFits y) x.gathered (made own) (All_map (OfferFits x) (OfferFits y) x.gathered (λ o. old_offer (may_own x key) refl o) f.offers) (new_offer (may_own x key) refl (st key)));
       held = λ k. (let q = st k in let old = f.held k in rw (gathered, has_offer-append x.gathered (made own) k 0) (held_at k (same_key key k) refl (stage_of y.opened k) q old));
       owner = λ k e. (let q = st k in rw q (owner_at k (same_key key k) refl (may_own x key) refl e (f.owner k)));
+      names = f.names;
       comms = f.comms;
+      left = λ c m e l. stay_open x.opened key (Offered i (may_own x key)) c (f.left c m e l);
+      range = f.range;
+      wide = f.wide;
       mask = f.mask;
     }
   where

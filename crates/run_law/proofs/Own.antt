@@ -1,21 +1,21 @@
 -- An open key of a rank: the thread that waits for it and the creation that it stands for.
-use Rattle.std.proofs.Common.{◌≡◌, ℕ, ◌<◌, ◌≤◌, nat_lt, Bool, true, false, List, [], ◌∷◌, get_or, refl, sym, ap, ◌∙◌, subst, arith, Some, None, Option}
+use Rattle.std.proofs.Common.{◌≡◌, ℕ, ◌<◌, ◌≤◌, nat_lt, Bool, true, false, List, [], ◌∷◌, get_or, refl, ap, ◌∙◌, subst, arith, Some}
 use Rattle.std.specs.Option.{is_some}
 use Rattle.mpi_base.specs.declared.keys.Key.{Key}
 use Rattle.std.proofs.lemmas.Bool.Decides.{nat_tests}
 use Rattle.mpi_base.specs.MemberLists.{has_rank}
 use Rattle.mpi_base.proofs.KeyFacts.{same_key_is}
 use Rattle.mpi_law.specs.declared.setting.Setting.{Setting}
-use Rattle.mpi_law.specs.Registry.{Registry, RankPart, ThreadPart, Wait, Idle, Reply_now, Creating, idle_thread as idle_part, Group_and_tag, waits_for, is_open, part_of, CreationName, stands_for, blank_comm, comm_of}
+use Rattle.mpi_law.specs.Registry.{Registry, RankPart, ThreadPart, Wait, Idle, Creating, Freeing, idle_thread as idle_part, Group_and_tag, waits_for, is_open, part_of, CreationName, stands_for, blank_comm}
 use Rattle.mpi_protocol.specs.declared.rows.Waits.{Waits}
-use Rattle.mpi_protocol.specs.declared.rows.Waits.TheVariants.{Nothing, Creation as Creates}
+use Rattle.mpi_protocol.specs.declared.rows.Waits.TheVariants.{Nothing, Creation as Creates, Freeing as Frees, Returned}
 use Rattle.mpi_protocol.specs.declared.rows.ThreadRow.{ThreadRow}
 use Rattle.mpi_protocol.specs.Rank.{Rank, stage_of, thread_at, idle_thread, waits_on}
 use Rattle.mpi_protocol.specs.Step.{key_from, is_open_here}
 use Rattle.run_law.proofs.Lists.{tally, one, tally_has, tally_one, any_tally}
-use Rattle.mpi_protocol.specs.declared.rows.CommRow.{CommRow}
-use Rattle.run_law.proofs.Contexts.{named_alike, row_at, comm_of_is, Standing, by_group, by_parent, standing}
-use Rattle.run_law.proofs.Fits.{row_of, CreationFits, WaitFits, RankFits, CommFits}
+use Rattle.run_law.proofs.Contexts.{live_member, named_alike, comm_of_is, Standing, by_group, by_parent, standing}
+use Rattle.run_law.proofs.Grown.{alone_at}
+use Rattle.run_law.proofs.Fits.{row_of, CreationFits, WaitFits, RankFits}
 
 -- what a thread that waits for a key waits for
 pub record Waiter (g : Registry) (r : ℕ) (x : Rank) (p : RankPart) (key : Key) : Type 0 where
@@ -32,12 +32,13 @@ pub waiter_at : (s : Setting) (g : Registry) (r : ℕ) (x : Rank) (p : RankPart)
 waiter_at s g r x p f key t lt e = go (thread_at x t).waits (get_or p.threads t idle_part).wait refl refl e (f.waits t)
   where
     go : (a : Waits) (b : Wait) → (thread_at x t).waits ≡ a → (get_or p.threads t idle_part).wait ≡ b → waits_on key a ≡ true → WaitFits g r x a b → Waiter g r x p key
-    go Nothing b ea eb h k = absurd (cc (h))
-    go (Creates k target session) Idle ea eb h fit = absurd fit
-    go (Creates k target session) (Reply_now said) ea eb h fit = absurd fit
     go (Creates k target session) (Creating n) ea eb h fit =
         let is : k ≡ key = same_key_is k key h in
         record { thread = t; inside = lt; target = target; session = session; place = n; waits = ea ∙ ap (λ (q : Key). Creates q target session) is; part_waits = eb; fits = subst (λ (q : Key). CreationFits g r x q target session n) is fit }
+    go Nothing b ea eb h k = absurd (cc (h))
+    go (Frees c) b ea eb h k = absurd (cc (h))
+    go Returned b ea eb h k = absurd (cc (h))
+    go a b ea eb h fit = absurd fit
 
 -- an open key has one
 pub waiter_of : (s : Setting) (g : Registry) (r : ℕ) (x : Rank) (p : RankPart) → RankFits s g r x p → (key : Key) → is_some (stage_of x.opened key) ≡ true → Waiter g r x p key
@@ -80,31 +81,22 @@ open_agrees s g r x f group tag =
 
     at_one : (a : Waits) (b : Wait) → WaitFits g r x a b → waits_for g (Group_and_tag group tag) b ≡ waits_on (key_from group tag) a
     at_one Nothing Idle h = refl
-    at_one Nothing (Reply_now said) h = absurd h
-    at_one Nothing (Creating m) h = absurd h
-    at_one (Creates k target session) Idle h = absurd h
-    at_one (Creates k target session) (Reply_now said) h = absurd h
     at_one (Creates k target session) (Creating m) h = named_alike g.comms r k (row_of g m).name group tag h.is
+    at_one (Frees c) (Freeing p) h = refl
+    at_one Returned (Freeing p) h = refl
+    at_one a b h = absurd h
 
 -- a name is that of keys of one rank alone
 pub same_rank : (s : Setting) (g : Registry) (r q : ℕ) (x : Rank) (p : RankPart) (k j : Key) (name : CreationName) → RankFits s g r x p → stands_for g.comms r k ≡ Some name → k.members ≡ r ∷ [] → stands_for g.comms q j ≡ Some name → j.members ≡ q ∷ [] → q ≡ r
 same_rank s g r q x p k j name f a m b n = go (standing g.comms r k name a) (standing g.comms q j name b)
   where
-    member : (i : ℕ) (o : Option CommRow) (z : Option ℕ) → CommFits g r o z → z ≡ Some i → has_rank (get_or g.comms i blank_comm).members q ≡ true → q ≡ r
-    member i None None h e l = absurd (cc (e))
-    member i None (Some y) h e l = absurd h
-    member i (Some row) None h e l = absurd h
-    member i (Some row) (Some y) h e l =
-        let is : y ≡ i = cc (e) in
-        let alone : (get_or g.comms i blank_comm).members ≡ r ∷ [] = ap (λ (u : ℕ). (get_or g.comms u blank_comm).members) (sym is) ∙ (sym h.0 ∙ h.1) in
-        let live : has_rank (r ∷ []) q ≡ true = subst (λ (ms : List ℕ). has_rank ms q ≡ true) alone l in
-        grind (arith, nat_tests, live)
-
     go : Standing g.comms r k name → Standing g.comms q j name → q ≡ r
     go (by_group t u v e) (by_group t' u' v' e') = cc (e, e', m, n)
     go (by_group t u v e) (by_parent i t' u' c' e') = absurd (cc (e, e'))
     go (by_parent i t u c e) (by_group t' u' v' e') = absurd (cc (e, e'))
     go (by_parent i t u c e) (by_parent i' t' u' c' e') =
         let same : i' ≡ i = cc (e, e') in
-        let live = (comm_of_is g.comms q j.parent i' c').live in
-        member i (row_at x.comms k.parent) (comm_of g.comms r k.parent) (f.comms k.parent) c (subst (λ (y : ℕ). has_rank (get_or g.comms y blank_comm).members q ≡ true) same live)
+        let live = live_member (get_or g.comms i' blank_comm) q (comm_of_is g.comms q j.parent i' c').live in
+        let alone = alone_at s g r k.parent i x p f c in
+        let member : has_rank (r ∷ []) q ≡ true = subst (λ (ms : List ℕ). has_rank ms q ≡ true) alone (subst (λ (y : ℕ). has_rank (get_or g.comms y blank_comm).members q ≡ true) same live) in
+        grind (arith, nat_tests, member)

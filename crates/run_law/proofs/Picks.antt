@@ -1,5 +1,5 @@
 -- A pick is allowed, and what it leaves fits.
-use Rattle.std.proofs.Common.{◌≡◌, ◌≢◌, ◌⊎◌, ℕ, ◌<◌, ◌≤◌, ◌&&◌, not, nat_lt, nat_le, if◌then◌else◌, Bool, true, false, List, [], ◌∷◌, length, get_or, set, Option, Some, None, refl, sym, ap, ◌∙◌, subst, inl, inr, arith}
+use Rattle.std.proofs.Common.{◌≡◌, ◌≢◌, ◌⊎◌, ℕ, ◌<◌, ◌≤◌, ◌&&◌, not, nat_lt, nat_le, if◌then◌else◌, Bool, true, false, List, [], ◌∷◌, length, get_or, set, Option, Some, None, refl, sym, ap, ◌∙◌, subst, inl, inr, arith, ◌+◌}
 use Rattle.std.specs.Option.{is_some}
 use Rattle.std.specs.List.{list_any, AllByRecursion}
 use Rattle.std.proofs.lemmas.Bool.Decides.{nat_tests}
@@ -7,23 +7,26 @@ use Rattle.mpi_base.specs.declared.keys.Key.{Key}
 use Rattle.mpi_base.specs.Keys.{same_key}
 use Rattle.mpi_base.proofs.KeyFacts.{same_key_tells, same_key_is, same_key-refl}
 use Rattle.mpi_law.specs.declared.setting.Setting.{Setting}
-use Rattle.mpi_law.specs.Registry.{Registry, RankPart, Outcome, Wait, Idle, Reply_now, Creating, MayPick, IsFree, AllInUse, blank_creation, idle_thread as idle_part, in_use, with_outcome, decide, key_place, comm_of, stands_for}
+use Rattle.mpi_law.specs.Registry.{Registry, RankPart, Outcome, Wait, Idle, Creating, MayPick, IsFree, AllInUse, blank_creation, idle_thread as idle_part, in_use, with_outcome, decide, key_place, comm_of, stands_for}
 use Rattle.mpi_protocol.specs.declared.rows.CommRow.{CommRow}
 use Rattle.mpi_protocol.specs.declared.rows.Outcome.{Outcome as Ended}
 use Rattle.mpi_protocol.specs.declared.rows.Stage.{Stage}
 use Rattle.mpi_protocol.specs.declared.rows.Stage.TheVariants.{Called, Waiting, Offered, Done}
 use Rattle.mpi_protocol.specs.declared.rows.Waits.{Waits}
-use Rattle.mpi_protocol.specs.declared.rows.Waits.TheVariants.{Nothing, Creation as Creates}
+use Rattle.mpi_protocol.specs.declared.rows.Waits.TheVariants.{Nothing, Creation as Creates, Freeing as Frees, Returned}
 use Rattle.mpi_protocol.specs.declared.rows.ThreadRow.{ThreadRow}
-use Rattle.mpi_protocol.specs.Rank.{Rank, Offer, stage_of, round_of, thread_at, idle_thread, waits_on, set_stage, drop_round, drop_offers}
+use Rattle.mpi_protocol.specs.Rank.{Rank, Offer, stage_of, round_of, thread_at, idle_thread, waits_on, set_stage, drop_round, drop_offers, row_at}
 use Rattle.mpi_protocol.specs.Agreement.{is_key, let_go, has_offer, all_own, is_common, least_common}
 use Rattle.run_law.proofs.Lists.{one, set_place, get_or_past}
 use Rattle.run_law.proofs.Rows.{stage_of-set, round_of-drop, has_offer-drop, All_dropped, common_from}
-use Rattle.run_law.proofs.Fits.{StageFits, row_of, CreationFits, WaitFits, CommFits, RankFits, OfferFits, offer_fits, round_fits, is_away, is_owned}
+use Rattle.mpi_law.specs.Registry.{Communicator, Freeing}
+use Rattle.mpi_base.specs.MemberLists.{has_rank}
+use Rattle.mpi_protocol.specs.Step.{is_left, has_none_open}
+use Rattle.run_law.proofs.Fits.{Unbound, StageFits, row_of, CreationFits, WaitFits, CommFits, RankFits, OfferFits, offer_fits, round_fits, is_away, is_owned}
 use Rattle.run_law.proofs.Grown.{Grows, CreationFits-grown, LocalFits-grown}
-use Rattle.run_law.proofs.Contexts.{row_at, is_numbered, stands_on, one_key_of}
+use Rattle.run_law.proofs.Contexts.{Keeps, is_numbered, stands_on, one_key_of}
 use Rattle.run_law.proofs.Own.{one_waiter}
-use Rattle.run_law.proofs.Offers.{is_undone}
+use Rattle.run_law.proofs.Offers.{stay_open, is_undone}
 use Rattle.run_law.proofs.Settles.{is_key-let_go, Settling, settling_undone}
 use Rattle.run_law.proofs.Decides.{find_range, find_range_none, Deciding}
 
@@ -33,6 +36,7 @@ pub may_pick : (s : Setting) (g : Registry) (r : ℕ) (x : Rank) (p : RankPart) 
 may_pick s g r x p key d = record {
   there = (let e = d.place in let t = d.waiter.fits.there in omega (arith, e, t));
   members = rw d.place (sym d.waiter.fits.members);
+  member = (let m = d.members in rw m (grind (arith, nat_tests)));
   all = (let c = d.waiter.fits.called in rw (d.place, d.members) (rw c refl));
 }
 
@@ -105,7 +109,8 @@ decided_rank x key end mask comms =
 -- the key is decided at the rank, with what goes with it in the registry
 module _ (s : Setting) (g new : Registry) (r : ℕ) (x : Rank) (p : RankPart) (key : Key) (d : Deciding g r x p key) (q : Settling x key) (all : all_own x.gathered key ≡ true) (out : Outcome) (end : Ended)
     (rows : new.creations ≡ decide g r key out) (grows : Grows g new r) (fits_new : StageFits new.comms r key.members (Some (Done end)) (Some out)) (f : RankFits s g r x p) (mask : List Bool) (comms : List CommRow)
-    (bits : (c : ℕ) → get_or mask c false ≡ (nat_lt 0 c && (nat_le c s.contexts && not (in_use new.comms r c)))) (known : (c : ℕ) → CommFits new r (row_at comms c) (comm_of new.comms r c)) (numbers : (k : Key) → is_numbered x.comms k ≡ true → is_some (stands_for g.comms r k) ≡ true → is_numbered comms k ≡ true) where
+    (bits : (c : ℕ) → get_or mask c false ≡ (nat_lt 0 c && (nat_le c s.contexts && not (in_use new.comms r c)))) (known : (c : ℕ) → CommFits new r (row_at comms c) (comm_of new.comms r c)) (keeps : Keeps g.comms new.comms r) (named : Unbound x.local.names (Some (Done end))) (lefts : (c : ℕ) (m : CommRow) → row_at comms c ≡ Some m → is_left m.stage ≡ true → has_none_open x.opened c ≡ true)
+    (ranged : (c : ℕ) → is_some (comm_of new.comms r c) ≡ true → (1 ≤ c) × (c ≤ s.contexts)) (wide : length mask ≡ s.contexts + 1) (numbers : (k : Key) → is_numbered x.comms k ≡ true → is_some (stands_for g.comms r k) ≡ true → is_numbered comms k ≡ true) where
   row_after : (m : ℕ) → ((m ≡ d.waiter.place) × (row_of new m ≡ with_outcome (row_of g d.waiter.place) out)) ⊎ ((m ≢ d.waiter.place) × (row_of new m ≡ row_of g m))
   row_after m = rw rows (decided_rows g r key d.waiter.place m out d.place d.waiter.fits.there)
 
@@ -145,9 +150,10 @@ module _ (s : Setting) (g new : Registry) (r : ℕ) (x : Rank) (p : RankPart) (k
   decided_fits : (k : Key) (target : List ℕ) (session : ℕ) → same_key key k ≡ true → row_of new d.waiter.place ≡ with_outcome (row_of g d.waiter.place) out → CreationFits g r x k target session d.waiter.place → CreationFits new r (decided_rank x key end mask comms) k target session d.waiter.place
   decided_fits k target session e row h = record {
     there = (let t = h.there in let m = grows.more_rows in omega (arith, t, m));
-    is = rw row (stands_on g.comms new.comms r k (row_of g d.waiter.place).name (grows.stands_stay r) h.is);
+    is = rw row (stands_on g.comms new.comms r k (row_of g d.waiter.place).name keeps.stands h.is);
     members = rw row h.members;
     numbered = numbers k h.numbered (rw h.is refl);
+    unbound = rw (stage_after k, e) named;
     alone = rw row h.alone;
     called = rw row h.called;
     target_is = rw row h.target_is;
@@ -157,10 +163,8 @@ module _ (s : Setting) (g new : Registry) (r : ℕ) (x : Rank) (p : RankPart) (k
 
   waits_after : (t : ℕ) (a : Waits) (b : Wait) → (thread_at x t).waits ≡ a → (get_or p.threads t idle_part).wait ≡ b → WaitFits g r x a b → WaitFits new r (decided_rank x key end mask comms) a b
   waits_after t Nothing Idle ex ep h = tt
-  waits_after t Nothing (Reply_now said) ex ep h = absurd h
-  waits_after t Nothing (Creating m) ex ep h = absurd h
-  waits_after t (Creates k target session) Idle ex ep h = absurd h
-  waits_after t (Creates k target session) (Reply_now said) ex ep h = absurd h
+  waits_after t (Frees c) (Freeing i) ex ep h = (keeps.stands c i h.0, ap (λ (m : Communicator). has_rank m.freed r) (keeps.same c i h.0) ∙ h.1)
+  waits_after t Returned (Freeing i) ex ep h = grows.returned_stay r i h
   waits_after t (Creates k target session) (Creating m) ex ep h = go (same_key key k) refl (row_after m)
     where
       go : (b : Bool) → same_key key k ≡ b → ((m ≡ d.waiter.place) × (row_of new m ≡ with_outcome (row_of g d.waiter.place) out)) ⊎ ((m ≢ d.waiter.place) × (row_of new m ≡ row_of g m)) → CreationFits new r (decided_rank x key end mask comms) k target session m
@@ -175,7 +179,8 @@ module _ (s : Setting) (g new : Registry) (r : ℕ) (x : Rank) (p : RankPart) (k
           let same = same_key-refl key in
           let no : same_key key key ≡ false = subst (λ (z : Key). same_key key z ≡ false) is e in
           absurd (cc (same, no))
-      go false e (inr a) = CreationFits-grown g new r r x (decided_rank x key end mask comms) k target session m grows a.1 (stage_after k ∙ rw e refl) (numbers k h.numbered (rw h.is refl)) h
+      go false e (inr a) = CreationFits-grown g new r x (decided_rank x key end mask comms) k target session m grows.more_rows keeps a.1 (stage_after k ∙ rw e refl) (numbers k h.numbered (rw h.is refl)) h.unbound h
+  waits_after t a b ex ep h = absurd h
 
   some_after : (k : Key) → is_some (stage_of (decided_rank x key end mask comms).opened k) ≡ is_some (stage_of x.opened k)
   some_after k = ap is_some (stage_after k) ∙ go (same_key key k) refl
@@ -212,7 +217,7 @@ module _ (s : Setting) (g new : Registry) (r : ℕ) (x : Rank) (p : RankPart) (k
   decided_kept = record {
     rank = f.rank;
     setting = f.setting;
-    local = LocalFits-grown g.comms new.comms r x.local p.local (grows.stands_stay r) f.local;
+    local = LocalFits-grown g.comms new.comms r x.local p.local keeps f.local;
     long = f.long;
     long_part = f.long_part;
     calls = f.calls;
@@ -222,7 +227,11 @@ module _ (s : Setting) (g new : Registry) (r : ℕ) (x : Rank) (p : RankPart) (k
     offers = All_dropped (OfferFits x) (OfferFits (decided_rank x key end mask comms)) x.gathered key (λ o e h. offer_after o e h) f.offers;
     owner = λ k e. rw (stage_after k) (owner_at k (same_key key k) refl (f.owner k) (rw (is_key-let_go x.owner key k) at e));
     held = λ k a. rw (has_offer-drop x.gathered key k 0) (held_at k (same_key key k) (f.held k) (rw (stage_after k) at a));
+    names = f.names;
     comms = known;
+    left = λ c m e l. stay_open x.opened key (Done end) c (lefts c m e l);
+    range = ranged;
+    wide = wide;
     mask = bits;
   }
     where

@@ -5,7 +5,7 @@ use Rattle.std.proofs.lemmas.List.{length-replicate}
 use Rattle.std.proofs.lemmas.List.FromFn.{get_or-map-range_with_len, length-map-range_with_len}
 use Rattle.mpi_base.specs.declared.keys.Key.{Key}
 use Rattle.mpi_base.specs.declared.entries.Act.{Act}
-use Rattle.mpi_base.specs.declared.entries.Act.TheVariants.{Call, Answer, Offer as MakeOffer, Settle}
+use Rattle.mpi_base.specs.declared.entries.Act.TheVariants.{Call, Answer, Offer as MakeOffer, Settle, Leave, Back}
 use Rattle.mpi_base.specs.declared.entries.Choice.{Choice}
 use Rattle.mpi_base.specs.declared.entries.Entry.{Entry}
 use Rattle.mpi_law.specs.declared.setting.Setting.{Setting}
@@ -27,6 +27,7 @@ use Rattle.run_law.proofs.Offers.{offer_kept}
 use Rattle.run_law.proofs.SettleSteps.{Goes, unseen, settle_goes}
 use Rattle.run_law.proofs.AnswerSteps.{answer_goes}
 use Rattle.run_law.proofs.CallSteps.{call_goes}
+use Rattle.run_law.proofs.BackSteps.{leave_goes, back_goes}
 
 both_true : (a b : Bool) → (a && b) ≡ true → (a ≡ true) × (b ≡ true)
 both_true true b e = (refl, e)
@@ -38,7 +39,7 @@ unfolding entry_events is_enabled step
 step_goes s w g c j may =
     let m = both_true (nat_lt c.rank (length w)) (is_enabled (rank_at w c.rank) c.act) may in
     let size = j.size in
-    subst (λ (i : ℕ). Goes s g (act_events i c.act (step (rank_at w c.rank) c.act).said (step (rank_at w c.rank) c.act).reply) (moved w c)) (sym (j.fits c.rank (grind (arith, nat_tests, m.0, size))).rank) (go c.rank c.act (grind (arith, nat_tests, m.0, size)) m.1)
+    subst (λ (i : ℕ). Goes s g (act_events i c.act (step (rank_at w c.rank) c.act).said (step (rank_at w c.rank) c.act).dropped (step (rank_at w c.rank) c.act).reply) (moved w c)) (sym (j.fits c.rank (grind (arith, nat_tests, m.0, size))).rank) (go c.rank c.act (grind (arith, nat_tests, m.0, size)) m.1)
   where
     due : (r : ℕ) (key : Key) → r < s.ranks → (o : Option Stage) → stage_of (rank_at w r).opened key ≡ o → is_due o ≡ true → Joined s (set w r (if_waiting (rank_at w r) key o).state) g
     due r key lt None e d = absurd (cc (d))
@@ -47,7 +48,7 @@ step_goes s w g c j may =
     due r key lt (Some (Offered i own)) e d = absurd (cc (d))
     due r key lt (Some (Done o)) e d = absurd (cc (d))
 
-    go : (r : ℕ) (a : Act) → r < s.ranks → is_enabled (rank_at w r) a ≡ true → Goes s g (act_events r a (step (rank_at w r) a).said (step (rank_at w r) a).reply) (set w r (step (rank_at w r) a).state)
+    go : (r : ℕ) (a : Act) → r < s.ranks → is_enabled (rank_at w r) a ≡ true → Goes s g (act_events r a (step (rank_at w r) a).said (step (rank_at w r) a).dropped (step (rank_at w r) a).reply) (set w r (step (rank_at w r) a).state)
     go r (Call t op) lt e =
         let a = both_true (nat_lt t 8) (is_idle (thread_at (rank_at w r) t).waits && is_built op) e in
         let b = both_true (is_idle (thread_at (rank_at w r) t).waits) (is_built op) a.1 in
@@ -59,6 +60,8 @@ step_goes s w g c j may =
     go r (Settle key) lt e =
         let a = both_true (is_first (rank_at w r).rank key.members) (is_ready (rank_at w r).gathered key) e in
         settle_goes s w g r key j lt a.0 a.1 _ refl
+    go r (Leave c) lt e = (tt, leave_goes s w g r c j lt e)
+    go r (Back c) lt e = back_goes s w g r c j lt e
 
 -- Runs one after another
 
@@ -109,7 +112,11 @@ fresh_fits s r = record {
   offers = tt;
   held = λ k e. absurd (cc (e));
   owner = λ k e. absurd (cc (e));
+  names = record { each = λ n. omega arith; comms = λ c. omega arith };
   comms = λ c. tt;
+  left = λ c m e. absurd (cc (e));
+  range = λ c e. absurd (cc (e));
+  wide = length-full_of (s.contexts + 1) s.contexts;
   mask = full_bits s.contexts;
 }
 
@@ -118,8 +125,14 @@ opening_joined s = record {
   size = length-map-range_with_len (fresh s) 0 s.ranks;
   parts = length-replicate s.ranks blank_part;
   fits = λ r lt. rw (get_or-map-range_with_len (fresh s) 0 s.ranks r r blank lt (omega arith), get_or-replicate s.ranks r blank_part) (fresh_fits s r);
-  waited = λ n lt e. absurd (omega (arith, lt));
-  placed = λ p r l. refl;
+  whole = record {
+    waited = λ n lt e. absurd (omega (arith, lt));
+    placed = λ p r l. refl;
+    apart = λ p q r lp lq hp hq e. absurd (omega (arith, lp));
+    owned = λ p lp. absurd (omega (arith, lp));
+    made_inside = λ n p e. absurd (cc (e));
+    made_once = λ n m p e f. absurd (cc (e));
+  };
 }
 
 -- what the registry sees of a protocol run, and the state in which it leaves the registry

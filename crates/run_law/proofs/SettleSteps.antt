@@ -1,5 +1,5 @@
 -- Each settle is a step that the registry does not see, or a pick.
-use Rattle.std.proofs.Common.{◌≡◌, ◌≢◌, ◌⊎◌, ℕ, zero, suc, ◌+◌, ◌<◌, ◌==◌, ◌&&◌, ◌||◌, not, nat_lt, nat_le, if◌then◌else◌, Bool, true, false, List, [], ◌∷◌, ◌++◌, length, get_or, set, Option, Some, None, refl, sym, ap, ◌∙◌, subst, inl, inr, arith, length-set}
+use Rattle.std.proofs.Common.{◌≡◌, ◌≢◌, ◌⊎◌, ℕ, zero, suc, ◌+◌, ◌<◌, ◌==◌, ◌&&◌, ◌||◌, not, nat_lt, nat_le, if◌then◌else◌, Bool, true, false, List, [], ◌∷◌, ◌++◌, length, get_or, set, Option, Some, None, refl, sym, ap, ◌∙◌, subst, inl, inr, arith, length-set, ◌≤◌}
 use Rattle.std.specs.Option.{is_none, is_some}
 use Rattle.std.specs.List.{list_any}
 use Rattle.std.proofs.lemmas.Bool.Decides.{nat_tests}
@@ -7,19 +7,21 @@ use Rattle.mpi_base.specs.declared.keys.Key.{Key}
 use Rattle.mpi_base.specs.MemberLists.{has_rank}
 use Rattle.mpi_base.proofs.KeyFacts.{same_key-refl}
 use Rattle.mpi_law.specs.declared.setting.Setting.{Setting}
-use Rattle.mpi_law.specs.Registry.{Registry, Event, RankPart, Communicator, Outcome, Made, NoneFree, blank_comm, blank_creation, in_use, IsFree, comm_of, called_on, key_place, with_outcome, decide, part_of, registry_next, registry_after, IsRegistryRun, called_on, key_place, comm_of}
+use Rattle.mpi_law.specs.Registry.{Registry, Event, Picks, Allowed, LiveApart, Creation, is_live_at, RankPart, Communicator, Outcome, Made, NoneFree, blank_comm, blank_creation, in_use, IsFree, comm_of, called_on, key_place, with_outcome, decide, part_of, registry_next, registry_after, IsRegistryRun, called_on, key_place, comm_of}
 use Rattle.mpi_protocol.specs.declared.rows.Outcome.TheVariants as ended
 use Rattle.mpi_protocol.specs.declared.rows.Verdict.{Verdict}
 use Rattle.mpi_protocol.specs.declared.rows.Verdict.TheVariants.{Ready, Retry, Context, Exhausted}
-use Rattle.mpi_protocol.specs.Rank.{Rank, Offer, round_of, session_of}
+use Rattle.mpi_protocol.specs.Rank.{Rank, Offer, round_of, session_of, row_at}
 use Rattle.mpi_protocol.specs.Agreement.{let_go, is_first, is_ready, all_own, picked, least_common, verdict_of}
 use Rattle.mpi_protocol.specs.Step.{settled, said_of}
 use Rattle.mpi_protocol.specs.World.{rank_at}
 use Rattle.mpi_protocol.specs.Run.{pick_events}
 use Rattle.run_law.proofs.Lists.{set_place, get_or_past, get_or-append, get_or-last, length-snoc}
-use Rattle.run_law.proofs.Contexts.{Stay, stay_more, in_use_is, row_at, called_on-set}
-use Rattle.run_law.proofs.Made.{made_here, made_elsewhere, made_known, made_numbers}
-use Rattle.run_law.proofs.Fits.{row_of, RankFits, Waited, Joined}
+use Rattle.run_law.proofs.Contexts.{Keeps, stay_more, comm_of_is, in_use_is, called_on-set}
+use Rattle.run_law.proofs.Made.{made_left, made_range, made_unbound, made_here, made_elsewhere, made_known, made_numbers}
+use Rattle.run_law.proofs.Fits.{row_of, RankFits, Waited, Owned, Whole, Joined}
+use Rattle.run_law.proofs.Apart.{event_apart}
+use Rattle.mpi_protocol.specs.declared.rows.CommStage.TheVariants.{Live}
 use Rattle.run_law.proofs.Grown.{Grows, CommFits-kept, joined_step}
 use Rattle.run_law.proofs.Settles.{is_key-let_go, settling, settling_undone, waiting_kept, not_owned_yet}
 use Rattle.run_law.proofs.Decides.{Deciding, deciding}
@@ -64,7 +66,7 @@ verdict_ready n gathered key i e = go (i == 0) (all_own gathered key) (least_com
 
 -- Contexts in use
 
-pub in_use-append : (comms : List Communicator) (m : Communicator) (r c : ℕ) → in_use (comms ++ m ∷ []) r c ≡ (in_use comms r c || ((m.ctx == c) && has_rank m.members r))
+pub in_use-append : (comms : List Communicator) (m : Communicator) (r c : ℕ) → in_use (comms ++ m ∷ []) r c ≡ (in_use comms r c || ((m.ctx == c) && is_live_at m r))
 in_use-append [] m r c = grind (arith)
 in_use-append (x ∷ xs) m r c = let ih = in_use-append xs m r c in grind (arith, ih)
 
@@ -76,14 +78,15 @@ only_self r q = grind (arith)
 counts : (g : Registry) (r : ℕ) (key : Key) (out : Outcome) (i q : ℕ) → called_on (decide g r key out) i q ≡ called_on g.creations i q
 counts g r key out i q = called_on-set g.creations (key_place g r key) (with_outcome (row_of g (key_place g r key)) out) i q refl refl
 
-picked_grows : (s : Setting) (g : Registry) (r : ℕ) (x : Rank) (p : RankPart) (key : Key) (out : Outcome) (more : List Communicator) → Deciding g r x p key → ((i : ℕ) → i < length g.comms → get_or more i blank_comm ≡ get_or g.comms i blank_comm)
-    → ((q : ℕ) → Stay g.comms more q) → ((q c : ℕ) → q ≢ r → comm_of more q c ≡ comm_of g.comms q c) → Grows g (record { comms = more; creations = decide g r key out; ranks = g.ranks }) r
-picked_grows s g r x p key out more d stay stands contexts = record {
-  comms_stay = stay;
+picked_grows : (s : Setting) (g : Registry) (r : ℕ) (x : Rank) (p : RankPart) (key : Key) (out : Outcome) (more : List Communicator) → Deciding g r x p key → length g.comms ≤ length more → ((i : ℕ) → i < length g.comms → get_or more i blank_comm ≡ get_or g.comms i blank_comm)
+    → ((q c : ℕ) → q ≢ r → comm_of more q c ≡ comm_of g.comms q c) → Grows g (record { comms = more; creations = decide g r key out; ranks = g.ranks }) r
+picked_grows s g r x p key out more d l stay contexts = record {
+  more_comms = l;
+  comms_stay = λ i li other. stay i li;
   more_rows = (let e = length-set g.creations (key_place g r key) (with_outcome (row_of g (key_place g r key)) out) in omega (arith, e));
   rows_stay = λ n lt other. go n other (decided_rows g r key d.waiter.place n out d.place d.waiter.fits.there);
-  stands_stay = stands;
   contexts_stay = contexts;
+  returned_stay = λ q i h. returned q i (nat_lt i (length g.comms)) refl h;
   counts_stay = λ q i ne. counts g r key out i q;
 }
   where
@@ -91,32 +94,72 @@ picked_grows s g r x p key out more d stay stands contexts = record {
     go n other (inl a) = absurd (other (subst (λ (i : ℕ). (row_of g i).group ≡ r ∷ []) (sym a.0) d.waiter.fits.alone))
     go n other (inr a) = a.1
 
-picked_waited : (s : Setting) (w : List Rank) (g : Registry) (r : ℕ) (x : Rank) (p : RankPart) (key : Key) (out : Outcome) (more : List Communicator) → Joined s w g → Deciding g r x p key
-    → (n : ℕ) → n < length (decide g r key out) → is_none (get_or (decide g r key out) n blank_creation).outcome ≡ true → Waited s (record { comms = more; creations = decide g r key out; ranks = g.ranks }) n
-picked_waited s w g r x p key out more j d n lt open_row =
-    go (decided_rows g r key d.waiter.place n out d.place d.waiter.fits.there)
-  where
-    inside : n < length g.creations
-    inside = let e = length-set g.creations (key_place g r key) (with_outcome (row_of g (key_place g r key)) out) in omega (arith, e, lt)
+    returned : (q i : ℕ) (b : Bool) → nat_lt i (length g.comms) ≡ b → has_rank (get_or g.comms i blank_comm).returned q ≡ true → has_rank (get_or more i blank_comm).returned q ≡ true
+    returned q i true e h = subst (λ (m : Communicator). has_rank m.returned q ≡ true) (sym (stay i (grind (arith, nat_tests, e)))) h
+    returned q i false e h =
+        let past = get_or_past g.comms i blank_comm (grind (arith, nat_tests, e)) in
+        absurd (let z : has_rank [] q ≡ true = subst (λ (m : Communicator). has_rank m.returned q ≡ true) past h in cc (z))
 
-    again : Waited s g n → Waited s (record { comms = more; creations = decide g r key out; ranks = g.ranks }) n
-    again v = record { rank = v.rank; thread = v.thread; rank_in = v.rank_in; thread_in = v.thread_in; waits = v.waits }
+-- the registry as a whole after a pick
+module _ (s : Setting) (w : List Rank) (g : Registry) (r : ℕ) (x : Rank) (p : RankPart) (key : Key) (out : Outcome) (more : List Communicator) (j : Joined s w g) (d : Deciding g r x p key) (l : length g.comms ≤ length more)
+    (apart : LiveApart (record { comms = more; creations = decide g r key out; ranks = g.ranks })) (owned : (i : ℕ) → i < length more → Owned s (get_or more i blank_comm)) (fresh_place : (i : ℕ) → Some out ≡ Some (Made i) → (i ≡ length g.comms) × (i < length more)) where
+  row_after : (n : ℕ) → ((n ≡ d.waiter.place) × (get_or (decide g r key out) n blank_creation ≡ with_outcome (row_of g d.waiter.place) out)) ⊎ ((n ≢ d.waiter.place) × (get_or (decide g r key out) n blank_creation ≡ row_of g n))
+  row_after n = decided_rows g r key d.waiter.place n out d.place d.waiter.fits.there
 
-    go : ((n ≡ d.waiter.place) × (get_or (decide g r key out) n blank_creation ≡ with_outcome (row_of g d.waiter.place) out)) ⊎ ((n ≢ d.waiter.place) × (get_or (decide g r key out) n blank_creation ≡ row_of g n)) → Waited s (record { comms = more; creations = decide g r key out; ranks = g.ranks }) n
-    go (inl a) = absurd (let z : is_none (with_outcome (row_of g d.waiter.place) out).outcome ≡ true = rw a.1 at open_row in cc (z))
-    go (inr a) = again (j.waited n inside (rw a.1 at open_row))
+  outcome_after : (n i : ℕ) → (get_or (decide g r key out) n blank_creation).outcome ≡ Some (Made i) → ((n ≡ d.waiter.place) × (i ≡ length g.comms) × (i < length more)) ⊎ ((row_of g n).outcome ≡ Some (Made i))
+  outcome_after n i e = go (row_after n)
+    where
+      go : ((n ≡ d.waiter.place) × (get_or (decide g r key out) n blank_creation ≡ with_outcome (row_of g d.waiter.place) out)) ⊎ ((n ≢ d.waiter.place) × (get_or (decide g r key out) n blank_creation ≡ row_of g n)) → ((n ≡ d.waiter.place) × (i ≡ length g.comms) × (i < length more)) ⊎ ((row_of g n).outcome ≡ Some (Made i))
+      go (inl a) =
+          let o : Some out ≡ Some (Made i) = sym (ap (λ (c : Creation). c.outcome) a.1) ∙ e in
+          let f = fresh_place i o in
+          inl (a.0, f.0, f.1)
+      go (inr a) = inr (sym (ap (λ (c : Creation). c.outcome) a.1) ∙ e)
 
-set_self : {A : Type 0} (xs : List A) (i : ℕ) (d : A) → set xs i (get_or xs i d) ≡ xs
+  waited_after : (n : ℕ) → n < length (decide g r key out) → is_none (get_or (decide g r key out) n blank_creation).outcome ≡ true → Waited s (record { comms = more; creations = decide g r key out; ranks = g.ranks }) n
+  waited_after n lt open_row = go (row_after n)
+    where
+      inside : n < length g.creations
+      inside = let e = length-set g.creations (key_place g r key) (with_outcome (row_of g (key_place g r key)) out) in omega (arith, e, lt)
+
+      again : Waited s g n → Waited s (record { comms = more; creations = decide g r key out; ranks = g.ranks }) n
+      again v = record { rank = v.rank; thread = v.thread; rank_in = v.rank_in; thread_in = v.thread_in; waits = v.waits }
+
+      go : ((n ≡ d.waiter.place) × (get_or (decide g r key out) n blank_creation ≡ with_outcome (row_of g d.waiter.place) out)) ⊎ ((n ≢ d.waiter.place) × (get_or (decide g r key out) n blank_creation ≡ row_of g n)) → Waited s (record { comms = more; creations = decide g r key out; ranks = g.ranks }) n
+      go (inl a) = absurd (let z : is_none (with_outcome (row_of g d.waiter.place) out).outcome ≡ true = rw a.1 at open_row in cc (z))
+      go (inr a) = again (j.whole.waited n inside (rw a.1 at open_row))
+
+  pub picked_whole : Whole s (record { comms = more; creations = decide g r key out; ranks = g.ranks })
+  picked_whole = record {
+    waited = waited_after;
+    placed = λ i z li. counts g r key out i z ∙ j.whole.placed i z (omega (arith, l, li));
+    apart = apart;
+    owned = owned;
+    made_inside = λ n i e. inside n i (outcome_after n i e);
+    made_once = λ n m i e f. once n m i (outcome_after n i e) (outcome_after m i f);
+  }
+    where
+      inside : (n i : ℕ) → ((n ≡ d.waiter.place) × (i ≡ length g.comms) × (i < length more)) ⊎ ((row_of g n).outcome ≡ Some (Made i)) → i < length more
+      inside n i (inl a) = a.2
+      inside n i (inr a) = let k = j.whole.made_inside n i a in omega (arith, k, l)
+
+      once : (n m i : ℕ) → ((n ≡ d.waiter.place) × (i ≡ length g.comms) × (i < length more)) ⊎ ((row_of g n).outcome ≡ Some (Made i)) → ((m ≡ d.waiter.place) × (i ≡ length g.comms) × (i < length more)) ⊎ ((row_of g m).outcome ≡ Some (Made i)) → n ≡ m
+      once n m i (inl a) (inl b) = a.0 ∙ sym b.0
+      once n m i (inl a) (inr b) = absurd (let k = j.whole.made_inside m i b in let e = a.1 in omega (arith, k, e))
+      once n m i (inr a) (inl b) = absurd (let k = j.whole.made_inside n i a in let e = b.1 in omega (arith, k, e))
+      once n m i (inr a) (inr b) = j.whole.made_once n m i a b
+
+pub set_self : {A : Type 0} (xs : List A) (i : ℕ) (d : A) → set xs i (get_or xs i d) ≡ xs
 set_self [] i d = refl
 set_self (x ∷ xs) zero d = refl
 set_self (x ∷ xs) (suc i) d = ap (λ ys. x ∷ ys) (set_self xs i d)
 
 pub unmoved : (g : Registry) (r : ℕ) → Grows g g r
-unmoved g r = record { comms_stay = λ p lt. refl; more_rows = omega arith; rows_stay = λ n lt other. refl; stands_stay = λ q c p e. e; contexts_stay = λ q c ne. refl; counts_stay = λ q p ne. refl }
+unmoved g r = record { more_comms = omega arith; comms_stay = λ p lt other. refl; more_rows = omega arith; rows_stay = λ n lt other. refl; contexts_stay = λ q c ne. refl; returned_stay = λ q p h. h; counts_stay = λ q p ne. refl }
 
 -- the registry sees nothing of a step that keeps its rank fitting
 pub unseen : (s : Setting) (w : List Rank) (g : Registry) (r : ℕ) (y : Rank) → Joined s w g → r < s.ranks → RankFits s g r y (part_of g r) → Joined s (set w r y) g
-unseen s w g r y j lt f = joined_step s w g g r y (part_of g r) j lt (sym (set_self g.ranks r _)) (unmoved g r) f j.waited j.placed
+unseen s w g r y j lt f = joined_step s w g g r y (part_of g r) j lt (sym (set_self g.ranks r _)) (unmoved g r) f j.whole
 
 -- A settle
 
@@ -140,19 +183,36 @@ settle_goes s w g r key j lt first ready (Context c) e =
     let d = deciding s w g r key j lt (settling_undone x key q) in
     let v = verdict_pick x.setting.contexts x.gathered key (round_of x.rounds key) (Some c) e in
     let common = subst (λ (z : Setting). least_common z.contexts x.gathered key ≡ Some c) f.setting v.1 in
-    let made : Communicator = record { ctx = c; members = key.members } in
+    let made : Communicator = record { ctx = c; members = key.members; freed = []; returned = [] } in
     let more = g.comms ++ made ∷ [] in
     let new : Registry = record { comms = more; creations = decide g r key (Made (length g.comms)); ranks = g.ranks } in
     let free = free_context s g r x (part_of g r) key c f d.members q v.0 common in
     let none = unused c d.members free in
     let session = session_of x.threads key in
-    let grows = picked_grows s g r x (part_of g r) key (Made (length g.comms)) more d (λ i li. get_or-append g.comms made blank_comm i li) (λ i. stay_more g.comms made i) (made_elsewhere s g r x (part_of g r) key c session f d.members none) in
-    let kept = decided_kept s g new r x (part_of g r) key d q v.0 (Made (length g.comms)) (ended.Context c) refl grows (made_here s g r x (part_of g r) key c session f d.members none, get_or-last g.comms made blank_comm) f (set x.mask c false) (x.comms ++ record { ctx = c; members = key.members; session = session; creations = 0 } ∷ []) (λ b. bits c b d.members f)
-    (made_known s g r x (part_of g r) key c session f d.members none (decide g r key (Made (length g.comms))) (λ i. counts g r key (Made (length g.comms)) i r) (j.placed (length g.comms) r (omega arith))) (made_numbers s g r x (part_of g r) key c session f d.members none) in (
-      ((may_pick s g r x (part_of g r) key d, free), tt),
-      joined_step s w g new r _ (part_of g r) j lt (sym (set_self g.ranks r _)) grows kept (picked_waited s w g r x (part_of g r) key (Made (length g.comms)) more j d) (λ i z l. counts g r key (Made (length g.comms)) i z ∙ j.placed i z (let n = length-snoc g.comms made in omega (arith, n, l))),
+    let more_long = length-snoc g.comms made in
+    let stay = λ (i : ℕ) (li : i < length g.comms). get_or-append g.comms made blank_comm i li in
+    let grows = picked_grows s g r x (part_of g r) key (Made (length g.comms)) more d (omega (arith, more_long)) stay (made_elsewhere s g r x (part_of g r) key c session f d.members none) in
+    let last = get_or-last g.comms made blank_comm in
+    let may : Allowed s g (Picks r key (Some c)) = (may_pick s g r x (part_of g r) key d, free) in
+    let kept = decided_kept s g new r x (part_of g r) key d q v.0 (Made (length g.comms)) (ended.Context c) refl grows (made_here s g r x (part_of g r) key c session f d.members none, ap (λ (m : Communicator). m.members) last, ap (λ (m : Communicator). has_rank m.freed r) last) f (set x.mask c false) (x.comms ++ record { ctx = c; members = key.members; session = session; creations = 0; stage = Live } ∷ []) (λ b. bits c b d.members f)
+    (made_known s g r x (part_of g r) key c session f d.members none (decide g r key (Made (length g.comms))) (λ i. counts g r key (Made (length g.comms)) i r) (j.whole.placed (length g.comms) r (omega arith)))
+    (record { stands = stay_more g.comms made r; same = λ b i e. stay i (comm_of_is g.comms r b i e).inside }) (made_unbound s g r x (part_of g r) key c session f d.members none) (made_left s g r x (part_of g r) key c session f d.members none)
+    (made_range s g r x (part_of g r) key c session f d.members none free.above free.below) (length-set x.mask c false ∙ f.wide) (made_numbers s g r x (part_of g r) key c session f d.members none) in (
+      (may, tt),
+      joined_step s w g new r _ (part_of g r) j lt (sym (set_self g.ranks r _)) grows kept
+          (picked_whole s w g r x (part_of g r) key (Made (length g.comms)) more j d (omega (arith, more_long)) (event_apart s g (Picks r key (Some c)) may j.whole.apart) (owned_more made (record { rank = r; rank_in = lt; alone = d.members })) (λ i e. let is : length g.comms ≡ i = cc (e) in (sym is, omega (arith, is, more_long)))),
     )
   where
+    owned_more : (made : Communicator) → Owned s made → (i : ℕ) → i < length (g.comms ++ made ∷ []) → Owned s (get_or (g.comms ++ made ∷ []) i blank_comm)
+    owned_more made o i li = go (nat_lt i (length g.comms)) refl
+      where
+        go : (b : Bool) → nat_lt i (length g.comms) ≡ b → Owned s (get_or (g.comms ++ made ∷ []) i blank_comm)
+        go true e = let inside : i < length g.comms = grind (arith, nat_tests, e) in subst (λ (m : Communicator). Owned s m) (sym (get_or-append g.comms made blank_comm i inside)) (j.whole.owned i inside)
+        go false e =
+            let n = length-snoc g.comms made in
+            let is : i ≡ length g.comms = grind (arith, nat_tests, e, n, li) in
+            subst (λ (k : ℕ). Owned s (get_or (g.comms ++ made ∷ []) k blank_comm)) (sym is) (subst (λ (m : Communicator). Owned s m) (sym (get_or-last g.comms made blank_comm)) o)
+
     unused : (c : ℕ) → key.members ≡ r ∷ [] → IsFree s g key c → comm_of g.comms r c ≡ None
     unused c members free =
         let i = in_use_is g.comms r c in
@@ -164,9 +224,9 @@ settle_goes s w g r key j lt first ready (Context c) e =
         none_of None h = refl
         none_of (Some p) h = absurd (cc (h))
 
-    bits : (c b : ℕ) → key.members ≡ r ∷ [] → RankFits s g r (rank_at w r) (part_of g r) → get_or (set (rank_at w r).mask c false) b false ≡ (nat_lt 0 b && (nat_le b s.contexts && not (in_use (g.comms ++ record { ctx = c; members = key.members } ∷ []) r b)))
+    bits : (c b : ℕ) → key.members ≡ r ∷ [] → RankFits s g r (rank_at w r) (part_of g r) → get_or (set (rank_at w r).mask c false) b false ≡ (nat_lt 0 b && (nat_le b s.contexts && not (in_use (g.comms ++ record { ctx = c; members = key.members; freed = []; returned = [] } ∷ []) r b)))
     bits c b members f =
-        let a = in_use-append g.comms (record { ctx = c; members = key.members }) r b in
+        let a = in_use-append g.comms (record { ctx = c; members = key.members; freed = []; returned = [] }) r b in
         let o : has_rank key.members r ≡ true = rw members (grind (arith, nat_tests)) in
         let m = f.mask b in
         let p = set_place (rank_at w r).mask c false false b in
@@ -180,8 +240,10 @@ settle_goes s w g r key j lt first ready Exhausted e =
     let v = verdict_pick x.setting.contexts x.gathered key (round_of x.rounds key) None e in
     let common = subst (λ (z : Setting). least_common z.contexts x.gathered key ≡ None) f.setting v.1 in
     let new : Registry = record { comms = g.comms; creations = decide g r key NoneFree; ranks = g.ranks } in
-    let grows = picked_grows s g r x (part_of g r) key NoneFree g.comms d (λ i li. refl) (λ i z p h. h) (λ i b ne. refl) in
-    let kept = decided_kept s g new r x (part_of g r) key d q v.0 NoneFree ended.Exhausted refl grows tt f x.mask x.comms f.mask (λ b. CommFits-kept g new r b (λ i li. refl) (λ i. counts g r key NoneFree i r) (row_at x.comms b) (comm_of g.comms r b) refl (f.comms b)) (λ k n st. n) in (
+    let grows = picked_grows s g r x (part_of g r) key NoneFree g.comms d (omega arith) (λ i li. refl) (λ i b ne. refl) in
+    let keeps : Keeps g.comms g.comms r = record { stands = λ b i h. h; same = λ b i h. refl } in
+    let kept = decided_kept s g new r x (part_of g r) key d q v.0 NoneFree ended.Exhausted refl grows tt f x.mask x.comms f.mask (λ b. CommFits-kept g new r b keeps (λ i. counts g r key NoneFree i r) (row_at x.comms b) (comm_of g.comms r b) refl (f.comms b)) keeps tt f.left f.range f.wide (λ k n st. n) in (
       ((may_pick s g r x (part_of g r) key d, none_free s g r x (part_of g r) key f d.members q v.0 common), tt),
-      joined_step s w g new r _ (part_of g r) j lt (sym (set_self g.ranks r _)) grows kept (picked_waited s w g r x (part_of g r) key NoneFree g.comms j d) (λ i z l. counts g r key NoneFree i z ∙ j.placed i z l),
+      joined_step s w g new r _ (part_of g r) j lt (sym (set_self g.ranks r _)) grows kept
+          (picked_whole s w g r x (part_of g r) key NoneFree g.comms j d (omega arith) j.whole.apart j.whole.owned (λ i h. absurd (cc (h)))),
     )

@@ -14,7 +14,7 @@ use Rattle.mpi_protocol.specs.Agreement.{is_key, let_go, is_first, is_ready, has
 use Rattle.run_law.proofs.Lists.{one}
 use Rattle.run_law.proofs.Rows.{stage_of-set, round_of-set, has_offer-drop, All_dropped, an_offer}
 use Rattle.run_law.proofs.Fits.{RankFits, OfferFits, offer_fits, round_fits, is_away, is_owned}
-use Rattle.run_law.proofs.Offers.{is_undone, stages, waits_on_undone, same_some}
+use Rattle.run_law.proofs.Offers.{stay_open, is_undone, stages, waits_on_undone, same_some}
 
 -- the key lets go, and no other does
 pub is_key-let_go : (owner : Option Key) (key k : Key) → is_key (let_go owner key) k ≡ (not (same_key key k) && is_key owner k)
@@ -55,7 +55,7 @@ pub waiting_kept : (s : Setting) (g : Registry) (r : ℕ) (x : Rank) (p : RankPa
     → RankFits s g r (record x { owner = owner; opened = set_stage x.opened key (Waiting n); gathered = drop_offers x.gathered key; rounds = set_round x.rounds key n }) p
 waiting_kept s g r x p key n owner undone pos owners gone f =
     let y : Rank = record x { owner = owner; opened = set_stage x.opened key (Waiting n); gathered = drop_offers x.gathered key; rounds = set_round x.rounds key n } in
-    let st = stages g r x y key (Waiting n) undone refl refl refl in
+    let st = stages g r x y key (Waiting n) undone refl refl refl refl in
     record {
       rank = f.rank;
       setting = f.setting;
@@ -63,13 +63,17 @@ waiting_kept s g r x p key n owner undone pos owners gone f =
       long = f.long;
       long_part = f.long_part;
       calls = f.calls;
-      waits = λ t. waits_on_undone g r x y key (Waiting n) undone refl refl refl (thread_at x t).waits (get_or p.threads t idle_part).wait (f.waits t);
-      waiter = λ k. f.waiter k ∙ ap one (sym (same_some g r x y key (Waiting n) undone refl refl refl k));
+      waits = λ t. waits_on_undone g r x y key (Waiting n) undone refl refl refl refl (thread_at x t).waits (get_or p.threads t idle_part).wait (f.waits t);
+      waiter = λ k. f.waiter k ∙ ap one (sym (same_some g r x y key (Waiting n) undone refl refl refl refl k));
       rounds = λ k. (let q = st k in let o = round_of-set x.rounds key k n in let old = f.rounds k in rw (q, o) (round_at k (same_key key k) old));
       offers = All_dropped (OfferFits x) (OfferFits y) x.gathered key (λ o e h. other o e h) f.offers;
       held = λ k a. (let q = st k in let d = has_offer-drop x.gathered key k 0 in let old = f.held k in rw d (held_at k (same_key key k) old (rw q at a)));
       owner = λ k e. (let q = st k in rw q (owner_at k (same_key key k) refl e (f.owner k)));
+      names = f.names;
       comms = f.comms;
+      left = λ c m e l. stay_open x.opened key (Waiting n) c (f.left c m e l);
+      range = f.range;
+      wide = f.wide;
       mask = f.mask;
     }
   where

@@ -1,5 +1,5 @@
 -- One script on one rank: each step of the drain takes from what is left.
-use Rattle.std.proofs.Common.{◌≡◌, ◌⊎◌, ℕ, zero, suc, ◌+◌, ◌<◌, ◌≤◌, ◌==◌, ◌&&◌, ◌||◌, not, nat_lt, if◌then◌else◌, Bool, true, false, List, [], ◌∷◌, length, get_or, set, slice_get, Option, Some, None, refl, sym, ap, ◌∙◌, subst, inl, inr, arith}
+use Rattle.std.proofs.Common.{◌≡◌, ◌⊎◌, ℕ, zero, suc, ◌+◌, ◌<◌, ◌≤◌, ◌==◌, ◌&&◌, ◌||◌, not, nat_lt, if◌then◌else◌, Bool, true, false, List, [], ◌∷◌, length, get_or, set, slice_get, Option, Some, None, refl, sym, ap, ◌∙◌, subst, inl, inr, arith, option_map, ◌++◌}
 use Rattle.std.specs.Option.{is_some, is_none}
 use Rattle.std.specs.List.{list_all, AllByRecursion}
 use Rattle.std.proofs.lemmas.Bool.Decides.{nat_tests}
@@ -8,12 +8,12 @@ use Rattle.mpi_base.specs.Keys.{same_key, key_before}
 use Rattle.mpi_base.proofs.KeyFacts.{same_key_is, same_key-refl, key_before_irreflexive}
 use Rattle.mpi_base.specs.declared.ops.Op.{Op}
 use Rattle.mpi_base.specs.declared.entries.Act.{Act}
-use Rattle.mpi_base.specs.declared.entries.Act.TheVariants.{Call, Answer, Offer as MakeOffer, Settle}
+use Rattle.mpi_base.specs.declared.entries.Act.TheVariants.{Call, Answer, Offer as MakeOffer, Settle, Leave, Back}
 use Rattle.mpi_base.specs.declared.entries.Choice.{Choice}
 use Rattle.mpi_base.specs.declared.entries.Entry.{Entry}
 use Rattle.mpi_law.specs.declared.setting.Setting.{Setting}
 use Rattle.mpi_law.specs.ScriptLists.{AllScripts, script_of, next_op, is_built}
-use Rattle.mpi_law.specs.Local.{Local, Effect, Says, Joins, effect_of, rebind, unbind}
+use Rattle.mpi_law.specs.Local.{Local, Effect, Origin, Grouped, Duplicated, Says, Joins, Frees, effect_of, rebind, unbind}
 use Rattle.mpi_law.specs.declared.rows.Bound.TheVariants.{Comm}
 use Rattle.mpi_law.specs.Registry.{Registry, RankPart, part_of, registry_opening}
 use Rattle.mpi_protocol.specs.declared.rows.CreationRow.{CreationRow}
@@ -24,7 +24,7 @@ use Rattle.mpi_protocol.specs.declared.rows.Stage.TheVariants.{Called, Waiting, 
 use Rattle.mpi_protocol.specs.declared.rows.Verdict.{Verdict}
 use Rattle.mpi_protocol.specs.declared.rows.Verdict.TheVariants.{Ready, Context, Exhausted}
 use Rattle.mpi_protocol.specs.declared.rows.Waits.{Waits}
-use Rattle.mpi_protocol.specs.declared.rows.Waits.TheVariants.{Nothing, Creation as Creates}
+use Rattle.mpi_protocol.specs.declared.rows.Waits.TheVariants.{Nothing, Creation as Creates, Freeing, Returned}
 use Rattle.mpi_protocol.specs.declared.rows.ThreadRow.{ThreadRow}
 use Rattle.mpi_protocol.specs.Rank.{Rank, Offer, fresh, stage_of, round_of, thread_at, idle_thread, is_idle, set_stage, close_creation}
 use Rattle.mpi_protocol.specs.Agreement.{is_key, is_waiting, is_least, may_own, is_first, is_ready, all_own, least_common, picked, verdict_of}
@@ -32,9 +32,17 @@ use Rattle.mpi_protocol.specs.Step.{key_of, step, is_enabled, is_due, is_done, i
 use Rattle.mpi_protocol.specs.World.{opening, blank, rank_at, moved}
 use Rattle.mpi_protocol.specs.Run.{RunsFrom, world_after, IsProtocolRun, end_of}
 use Rattle.mpi_protocol.specs.Order.{IsOfScript, IsOpenTo, IsDrained}
-use Rattle.run_law.specs.Solo.{IsSolo, stage_steps, waits_steps, steps_left}
+use Rattle.run_law.specs.Solo.{IsSolo, stage_steps, comm_stage_steps, comm_steps, waits_steps, steps_left}
 use Rattle.run_law.proofs.Rows.{or_else, stage_of-open, stage_of-set, stage_of-close}
-use Rattle.run_law.proofs.Fits.{RankFits, OfferFits, offer_fits, is_owned, Joined}
+use Rattle.run_law.proofs.Fits.{is_live, RankFits, OfferFits, offer_fits, is_owned, Joined}
+use Rattle.mpi_protocol.specs.declared.rows.CommRow.{CommRow}
+use Rattle.mpi_protocol.specs.declared.rows.CommStage.{CommStage}
+use Rattle.mpi_protocol.specs.declared.rows.CommStage.TheVariants.{Live, Freed, Left}
+use Rattle.mpi_protocol.specs.Rank.{row_at, with_stage, set_comm_stage, drop_comm, with_creation, returned_to, return_threads}
+use Rattle.mpi_protocol.specs.Step.{counted, may_leave, may_give_back, left_behind, given_back, is_freed, is_left}
+use Rattle.run_law.proofs.Contexts.{row_at-append, row_at-count}
+use Rattle.run_law.proofs.Changes.{row_context, row_at-stage, row_at-drop}
+use Rattle.run_law.proofs.BackSteps.{get_or-threads}
 use Rattle.run_law.proofs.Own.{waiter_of}
 use Rattle.run_law.proofs.Settles.{Settling, settling}
 use Rattle.run_law.proofs.Runs.{step_goes, opening_joined, get_or-replicate}
@@ -47,10 +55,26 @@ owns_offer (Some (Waiting i)) = true
 owns_offer (Some (Offered i own)) = own
 owns_offer (Some (Done o)) = true
 
--- only thread 0 ever waits, and every offer owns
+-- only thread 0 ever waits, every offer owns, and thread 0 waits for each communicator that is freed
 pub record SoloFits (x : Rank) : Type 0 where
   pub idle : (t : ℕ) → 1 ≤ t → (thread_at x t).waits ≡ Nothing
   pub owns : (k : Key) → owns_offer (stage_of x.opened k) ≡ true
+  pub freer : (c : ℕ) (m : CommRow) → row_at x.comms c ≡ Some m → is_live m.stage ≡ false → (thread_at x 0).waits ≡ Freeing c
+
+-- no communicator is freed
+abbrev AllLive : List CommRow → Type 0
+AllLive comms = (c : ℕ) (m : CommRow) → row_at comms c ≡ Some m → is_live m.stage ≡ true
+
+-- so where thread 0 waits for no give-back
+all_live : (x : Rank) → SoloFits x → ((c : ℕ) → (thread_at x 0).waits ≡ Freeing c → ⊥) → AllLive x.comms
+all_live x solo not_freeing c m e = go (is_live m.stage) refl
+  where
+    go : (b : Bool) → is_live m.stage ≡ b → is_live m.stage ≡ true
+    go true h = h
+    go false h = absurd (not_freeing c (solo.freer c m e h))
+
+none_freed : (comms : List CommRow) (waits : Waits) → AllLive comms → (c : ℕ) (m : CommRow) → row_at comms c ≡ Some m → is_live m.stage ≡ false → waits ≡ Freeing c
+none_freed comms waits live c m e h = absurd (let z = live c m e in cc (z, h))
 
 -- thread 0 waits for any key that is open
 pub record Zero (x : Rank) (key : Key) : Type 0 where
@@ -161,9 +185,20 @@ steps_small (Some (Waiting i)) = omega arith
 steps_small (Some (Offered i own)) = omega arith
 steps_small (Some (Done d)) = omega arith
 
+comm_small : (o : Option CommRow) → comm_steps o ≤ 4
+comm_small None = omega arith
+comm_small (Some m) = go m.stage
+  where
+    go : (st : CommStage) → comm_stage_steps st ≤ 4
+    go Live = omega arith
+    go Freed = omega arith
+    go Left = omega arith
+
 waits_small : (x : Rank) (a : Waits) → waits_steps x a ≤ 4
 waits_small x Nothing = omega arith
 waits_small x (Creates key target session) = steps_small (stage_of x.opened key)
+waits_small x (Freeing c) = comm_small (row_at x.comms c)
+waits_small x Returned = omega arith
 
 -- one more operation is called
 call_falls : (scripts : AllScripts) (x y : Rank) (a : Waits) → (thread_at x 0).waits ≡ Nothing → (thread_at x 0).calls < length (script_of scripts 0 0) → thread_at y 0 ≡ record { calls = (thread_at x 0).calls + 1; waits = a } → Less scripts x y
@@ -175,16 +210,58 @@ call_falls scripts x y a idle lt e =
     let small = waits_small y a in
     omega (arith, w, c, v, small, lt)
 
+-- a creation that is counted frees nothing
+counted_live : (comms : List CommRow) (o : Origin) → AllLive comms → AllLive (counted comms o)
+counted_live comms (Grouped group tag) live d m e = live d m e
+counted_live comms (Duplicated c) live d m e = go (row_at comms d) refl (sym (row_at-count comms c d) ∙ e)
+  where
+    go : (o : Option CommRow) → row_at comms d ≡ o → option_map (with_creation c) o ≡ Some m → is_live m.stage ≡ true
+    go None q k = absurd (cc (k))
+    go (Some u) q k =
+        let is : with_creation c u ≡ m = cc (k) in
+        let same : (with_creation c u).stage ≡ u.stage = grind (arith) in
+        subst (λ (y : CommRow). is_live y.stage ≡ true) is (subst (λ (st : CommStage). is_live st ≡ true) (sym same) (live d u q))
+
+-- nor does one that is picked
+more_live : (comms : List CommRow) (m : CommRow) → is_live m.stage ≡ true → AllLive comms → AllLive (comms ++ m ∷ [])
+more_live comms m new live d v e = go (row_at comms d) refl (m.ctx == d) (sym (row_at-append comms m d) ∙ e)
+  where
+    go : (o : Option CommRow) → row_at comms d ≡ o → (b : Bool) → or_else o (if b then Some m else None) ≡ Some v → is_live v.stage ≡ true
+    go None q true k = let is : m ≡ v = cc (k) in subst (λ (y : CommRow). is_live y.stage ≡ true) is new
+    go None q false k = absurd (cc (k))
+    go (Some u) q b k = let is : u ≡ v = cc (k) in subst (λ (y : CommRow). is_live y.stage ≡ true) is (live d u q)
+
 solo_call : (scripts : AllScripts) (x : Rank) (e : Effect) → SoloFits x → 0 < length x.threads → (thread_at x 0).waits ≡ Nothing → (thread_at x 0).calls < length (script_of scripts 0 0) → Next scripts x (called x 0 e).state
 solo_call scripts x (Says l r) solo lt idle less =
-    (record { idle = idle_after x _ solo lt; owns = solo.owns }, call_falls scripts x (called x 0 (Says l r)).state Nothing idle less (set_first x.threads _ lt))
+    let live = all_live x solo (λ c e. cc (idle, e)) in
+    (record { idle = idle_after x _ solo lt; owns = solo.owns; freer = none_freed x.comms _ live }, call_falls scripts x (called x 0 (Says l r)).state Nothing idle less (set_first x.threads _ lt))
 solo_call scripts x (Joins l a) solo lt idle less =
-    (record { idle = idle_after x _ solo lt; owns = λ k. rw (stage_of-open x.opened (key_of x a.origin) Called k) (owned (stage_of x.opened k) (same_key (key_of x a.origin) k) (solo.owns k)) }, call_falls scripts x (joined x 0 l a) (Creates (key_of x a.origin) a.target a.session) idle less (set_first x.threads _ lt))
+    let live = all_live x solo (λ c e. cc (idle, e)) in
+    (record { idle = idle_after x _ solo lt; owns = λ k. rw (stage_of-open x.opened (key_of x a.origin) Called k) (owned (stage_of x.opened k) (same_key (key_of x a.origin) k) (solo.owns k)); freer = none_freed (counted x.comms a.origin) _ (counted_live x.comms a.origin live) }, call_falls scripts x (joined x 0 l a) (Creates (key_of x a.origin) a.target a.session) idle less (set_first x.threads _ lt))
   where
     owned : (o : Option Stage) (b : Bool) → owns_offer o ≡ true → owns_offer (or_else o (if b then Some Called else None)) ≡ true
     owned None true h = refl
     owned None false h = refl
     owned (Some s) b h = h
+solo_call scripts x (Frees l c) solo lt idle less =
+    let live = all_live x solo (λ d e. cc (idle, e)) in
+    let first = set_first x.threads (record { calls = (thread_at x 0).calls + 1; waits = Freeing c }) lt in
+    (record { idle = idle_after x _ solo lt; owns = solo.owns; freer = λ d m e h. ap (λ (z : ThreadRow). z.waits) first ∙ ap Freeing (freed_one d m live e h) }, call_falls scripts x (called x 0 (Frees l c)).state (Freeing c) idle less first)
+  where
+    freed_one : (d : ℕ) (m : CommRow) → AllLive x.comms → row_at (set_comm_stage x.comms c Freed) d ≡ Some m → is_live m.stage ≡ false → c ≡ d
+    freed_one d m live e h = go (row_at x.comms d) refl (sym (row_at-stage x.comms c Freed d) ∙ e)
+      where
+        go : (o : Option CommRow) → row_at x.comms d ≡ o → option_map (with_stage c Freed) o ≡ Some m → c ≡ d
+        go None q k = absurd (cc (k))
+        go (Some u) q k = by (u.ctx == c) refl
+          where
+            by : (b : Bool) → (u.ctx == c) ≡ b → c ≡ d
+            by true t = let at : u.ctx ≡ c = grind (arith, nat_tests, t) in sym at ∙ row_context x.comms d u q
+            by false t =
+                let same : with_stage c Freed u ≡ u = rw t refl in
+                let is : u ≡ m = sym same ∙ (let z : with_stage c Freed u ≡ m = cc (k) in z) in
+                let z = subst (λ (y : CommRow). is_live y.stage ≡ true) is (live d u q) in
+                absurd (cc (z, h))
 
 solo_answer : (scripts : AllScripts) (x : Rank) (key : Key) (target : List ℕ) (session : ℕ) (d : Ended) → SoloFits x → 0 < length x.threads → (thread_at x 0).waits ≡ Creates key target session → stage_of x.opened key ≡ Some (Done d) → Next scripts x (ends x 0 key target session d).state
 unfolding steps_left
@@ -195,7 +272,7 @@ solo_answer scripts x key target session d solo lt waits stage = go d stage
     owned k false h = h
 
     fits : (l : Local) → SoloFits (record x { opened = close_creation x.opened key; local = l; threads = set x.threads 0 (record { calls = (thread_at x 0).calls; waits = Nothing }) })
-    fits l = record { idle = idle_after x (record { calls = (thread_at x 0).calls; waits = Nothing }) solo lt; owns = λ k. rw (stage_of-close x.opened key k) (owned k (same_key key k) (solo.owns k)) }
+    fits l = record { idle = idle_after x (record { calls = (thread_at x 0).calls; waits = Nothing }) solo lt; owns = λ k. rw (stage_of-close x.opened key k) (owned k (same_key key k) (solo.owns k)); freer = none_freed x.comms _ (all_live x solo (λ c e. cc (waits, e))) }
 
     falls : (y : Rank) (d : Ended) → stage_of x.opened key ≡ Some (Done d) → thread_at y 0 ≡ record { calls = (thread_at x 0).calls; waits = Nothing } → Less scripts x y
     falls y d stage e =
@@ -209,14 +286,15 @@ solo_answer scripts x key target session d solo lt waits stage = go d stage
     go ended.Exhausted st = (fits (record { names = unbind x.local.names target; sessions = x.local.sessions }), falls (ends x 0 key target session ended.Exhausted).state ended.Exhausted st (set_first x.threads (record { calls = (thread_at x 0).calls; waits = Nothing }) lt))
 
 -- the open key goes to another stage that is nearer to the answer
-solo_stage : (scripts : AllScripts) (x y : Rank) (key : Key) (b : Stage) → SoloFits x → Zero x key → is_some (stage_of x.opened key) ≡ true → y.threads ≡ x.threads → y.opened ≡ set_stage x.opened key b → owns_offer (Some b) ≡ true → stage_steps (Some b) < stage_steps (stage_of x.opened key) → Next scripts x y
-solo_stage scripts x y key b solo z some threads opened own less =
+solo_stage : (scripts : AllScripts) (x y : Rank) (key : Key) (b : Stage) → SoloFits x → Zero x key → is_some (stage_of x.opened key) ≡ true → y.threads ≡ x.threads → y.opened ≡ set_stage x.opened key b → (AllLive x.comms → AllLive y.comms) → owns_offer (Some b) ≡ true → stage_steps (Some b) < stage_steps (stage_of x.opened key) → Next scripts x y
+solo_stage scripts x y key b solo z some threads opened rows own less =
     let at : (k : Key) → stage_of y.opened k ≡ (if same_key key k then (if is_some (stage_of x.opened k) then Some b else None) else stage_of x.opened k) = λ k. ap (λ (os : List CreationRow). stage_of os k) opened ∙ stage_of-set x.opened key b k in
     let r = same_key-refl key in
     let here : stage_of y.opened key ≡ Some b = at key ∙ (rw (r, some) refl) in (
       record {
         idle = λ t pos. ap (λ (ts : List ThreadRow). (get_or ts t idle_thread).waits) threads ∙ solo.idle t pos;
         owns = λ k. rw (at k) (owned k (same_key key k) (is_some (stage_of x.opened k)) (solo.owns k));
+        freer = none_freed y.comms _ (rows (all_live x solo (λ c e. let w = z.waits in cc (w, e))));
       },
       stage_falls scripts x y key z (ap (λ (ts : List ThreadRow). get_or ts 0 idle_thread) threads) (rw here less),
     )
@@ -253,7 +331,7 @@ solo_settle s g r scripts x p key f solo first ready v ev = go (stage_of x.opene
         let round : (round_of x.rounds key == 0) ≡ true = rw e at old in
         let ready_now : Ready ≡ v = (rw round at ev) in
         subst (λ (u : Verdict). Next scripts x (settled x key (round_of x.rounds key) u).state) ready_now
-        (solo_stage scripts x (settled x key (round_of x.rounds key) Ready).state key (Waiting 1) solo (zero_waits s g r x p f solo key (rw e refl)) (rw e refl) refl refl refl (rw e (omega arith)))
+        (solo_stage scripts x (settled x key (round_of x.rounds key) Ready).state key (Waiting 1) solo (zero_waits s g r x p f solo key (rw e refl)) (rw e refl) refl refl (λ live. live) refl (rw e (omega arith)))
     go (Some (Offered i own)) e v ev = final v ev
       where
         is_own : own ≡ true
@@ -272,10 +350,87 @@ solo_settle s g r scripts x p key f solo first ready v ev = go (stage_of x.opene
             ends_in : (o : Option ℕ) (v : Verdict) → picked o ≡ v → Next scripts x (settled x key (round_of x.rounds key) v).state
             ends_in None v d =
                 subst (λ (u : Verdict). Next scripts x (settled x key (round_of x.rounds key) u).state) d
-                (solo_stage scripts x (settled x key (round_of x.rounds key) Exhausted).state key (Done ended.Exhausted) solo (zero_waits s g r x p f solo key (rw e refl)) (rw e refl) refl refl refl (rw e (omega arith)))
+                (solo_stage scripts x (settled x key (round_of x.rounds key) Exhausted).state key (Done ended.Exhausted) solo (zero_waits s g r x p f solo key (rw e refl)) (rw e refl) refl refl (λ live. live) refl (rw e (omega arith)))
             ends_in (Some c) v d =
                 subst (λ (u : Verdict). Next scripts x (settled x key (round_of x.rounds key) u).state) d
-                (solo_stage scripts x (settled x key (round_of x.rounds key) (Context c)).state key (Done (ended.Context c)) solo (zero_waits s g r x p f solo key (rw e refl)) (rw e refl) refl refl refl (rw e (omega arith)))
+                (solo_stage scripts x (settled x key (round_of x.rounds key) (Context c)).state key (Done (ended.Context c)) solo (zero_waits s g r x p f solo key (rw e refl)) (rw e refl) refl refl (λ live. more_live x.comms _ refl live) refl (rw e (omega arith)))
+
+-- the thread whose communicator is given back is answered
+solo_returned : (scripts : AllScripts) (x : Rank) → SoloFits x → 0 < length x.threads → (thread_at x 0).waits ≡ Returned → Next scripts x (record x { threads = set x.threads 0 (record { calls = (thread_at x 0).calls; waits = Nothing }) })
+unfolding steps_left
+solo_returned scripts x solo lt waits =
+    let y : Rank = record x { threads = set x.threads 0 (record { calls = (thread_at x 0).calls; waits = Nothing }) } in
+    let first = set_first x.threads (record { calls = (thread_at x 0).calls; waits = Nothing }) lt in
+    let a : waits_steps x (thread_at x 0).waits ≡ 1 = ap (waits_steps x) waits in
+    let c = ap (λ (z : ThreadRow). z.calls) first in
+    let v : waits_steps y (get_or (set x.threads 0 (record { calls = (thread_at x 0).calls; waits = Nothing })) 0 idle_thread).waits ≡ 0 = ap (λ (z : ThreadRow). waits_steps y z.waits) first in
+    (record { idle = idle_after x _ solo lt; owns = solo.owns; freer = none_freed x.comms _ (all_live x solo (λ d e. cc (waits, e))) }, omega (arith, a, c, v))
+
+not_live_freed : (st : CommStage) → is_freed st ≡ true → (is_live st ≡ false) × (comm_stage_steps st ≡ 3)
+not_live_freed Live e = absurd (cc (e))
+not_live_freed Freed e = (refl, refl)
+not_live_freed Left e = absurd (cc (e))
+
+not_live_left : (st : CommStage) → is_left st ≡ true → (is_live st ≡ false) × (comm_stage_steps st ≡ 2)
+not_live_left Live e = absurd (cc (e))
+not_live_left Freed e = absurd (cc (e))
+not_live_left Left e = (refl, refl)
+
+-- the freed communicator is left
+solo_leave : (scripts : AllScripts) (x : Rank) (c : ℕ) → SoloFits x → (o : Option CommRow) → row_at x.comms c ≡ o → may_leave x c o ≡ true → Next scripts x (left_behind x c).state
+unfolding steps_left
+solo_leave scripts x c solo None e may = absurd (cc (may))
+solo_leave scripts x c solo (Some m) e may =
+    let freed = not_live_freed m.stage (grind (arith, may)) in
+    let waits = solo.freer c m e freed.0 in
+    let context = row_context x.comms c m e in
+    let staged : with_stage c Left m ≡ record { ctx = m.ctx; members = m.members; session = m.session; creations = m.creations; stage = Left } = grind (arith, nat_tests, context) in
+    let row : row_at (set_comm_stage x.comms c Left) c ≡ Some (record { ctx = m.ctx; members = m.members; session = m.session; creations = m.creations; stage = Left }) = row_at-stage x.comms c Left c ∙ (rw e (ap (λ (z : CommRow). Some z) staged)) in
+    let a : waits_steps x (thread_at x 0).waits ≡ 3 = ap (waits_steps x) waits ∙ (ap comm_steps e ∙ freed.1) in
+    let b : waits_steps (left_behind x c).state (thread_at x 0).waits ≡ 2 = ap (waits_steps (left_behind x c).state) waits ∙ ap comm_steps row in
+    (record { idle = solo.idle; owns = solo.owns; freer = λ d v q h. still waits d v q h }, omega (arith, a, b))
+  where
+    still : (thread_at x 0).waits ≡ Freeing c → (d : ℕ) (v : CommRow) → row_at (set_comm_stage x.comms c Left) d ≡ Some v → is_live v.stage ≡ false → (thread_at x 0).waits ≡ Freeing d
+    still waits d v q h = go (row_at x.comms d) refl (sym (row_at-stage x.comms c Left d) ∙ q)
+      where
+        go : (o : Option CommRow) → row_at x.comms d ≡ o → option_map (with_stage c Left) o ≡ Some v → (thread_at x 0).waits ≡ Freeing d
+        go None p k = absurd (cc (k))
+        go (Some u) p k = by (u.ctx == c) refl
+          where
+            by : (b : Bool) → (u.ctx == c) ≡ b → (thread_at x 0).waits ≡ Freeing d
+            by true t = let at : u.ctx ≡ c = grind (arith, nat_tests, t) in waits ∙ ap Freeing (sym at ∙ row_context x.comms d u p)
+            by false t =
+                let same : with_stage c Left u ≡ u = rw t refl in
+                let is : v ≡ u = (let z : v ≡ with_stage c Left u = cc (k) in z ∙ same) in
+                solo.freer d u p (subst (λ (y : CommRow). is_live y.stage ≡ false) is h)
+
+-- and given back
+solo_back : (scripts : AllScripts) (x : Rank) (c : ℕ) → SoloFits x → (o : Option CommRow) → row_at x.comms c ≡ o → may_give_back x o ≡ true → Next scripts x (given_back x c).state
+unfolding steps_left
+solo_back scripts x c solo None e may = absurd (cc (may))
+solo_back scripts x c solo (Some m) e may =
+    let gone = not_live_left m.stage (grind (arith, may)) in
+    let waits = solo.freer c m e gone.0 in
+    let first = get_or-threads x.threads c 0 in
+    let now : returned_to c (thread_at x 0) ≡ record { calls = (thread_at x 0).calls; waits = Returned } = rw waits (grind (arith, nat_tests)) in
+    let thread : get_or (return_threads x.threads c) 0 idle_thread ≡ record { calls = (thread_at x 0).calls; waits = Returned } = first ∙ now in
+    let a : waits_steps x (thread_at x 0).waits ≡ 2 = ap (waits_steps x) waits ∙ (ap comm_steps e ∙ gone.1) in
+    let k = ap (λ (z : ThreadRow). z.calls) thread in
+    let b : waits_steps (given_back x c).state (get_or (return_threads x.threads c) 0 idle_thread).waits ≡ 1 = ap (λ (z : ThreadRow). waits_steps (given_back x c).state z.waits) thread in
+    (record { idle = λ t pos. idle_still t (solo.idle t pos); owns = solo.owns; freer = λ d v q h. absurd (no_other waits d v q h) }, omega (arith, a, b, k))
+  where
+    idle_still : (t : ℕ) → (thread_at x t).waits ≡ Nothing → (get_or (return_threads x.threads c) t idle_thread).waits ≡ Nothing
+    idle_still t i = ap (λ (z : ThreadRow). z.waits) (get_or-threads x.threads c t) ∙ (rw i i)
+
+    no_other : (thread_at x 0).waits ≡ Freeing c → (d : ℕ) (v : CommRow) → row_at (drop_comm x.comms c) d ≡ Some v → is_live v.stage ≡ false → ⊥
+    no_other waits d v q h = go (c == d) refl (sym (row_at-drop x.comms c d) ∙ q)
+      where
+        go : (b : Bool) → (c == d) ≡ b → (if b then None else row_at x.comms d) ≡ Some v → ⊥
+        go true t k = cc (k)
+        go false t k =
+            let other = solo.freer d v k h in
+            let is : c ≡ d = cc (waits, other) in
+            grind (arith, nat_tests, t, is)
 
 first_set : (w : List Rank) (y : Rank) → 0 < length w → rank_at (set w 0 y) 0 ≡ y
 first_set [] y lt = absurd (omega arith)
@@ -288,6 +443,8 @@ two false b e = absurd (cc (e))
 idle_is : (a : Waits) → is_idle a ≡ true → a ≡ Nothing
 idle_is Nothing e = refl
 idle_is (Creates key target session) e = absurd (cc (e))
+idle_is (Freeing c) e = absurd (cc (e))
+idle_is Returned e = absurd (cc (e))
 
 -- each choice that the drain may make takes from what is left
 solo_step : (s : Setting) (w : List Rank) (g : Registry) (scripts : AllScripts) (c : Choice) → s.ranks ≡ 1 → IsSolo scripts → Joined s w g → SoloFits (rank_at w 0) → IsOpenTo w scripts c → Next scripts (rank_at w 0) (rank_at (moved w c) 0)
@@ -332,12 +489,14 @@ solo_step s w g scripts c single alone j solo may =
             done (Some (Waiting i)) z d = absurd (cc (d))
             done (Some (Offered i own)) z d = absurd (cc (d))
             done (Some (Done o)) z d = solo_answer scripts (rank_at w 0) key target session o solo long q z
+        at (Freeing c) q h = absurd (cc (h))
+        at Returned q h = solo_returned scripts (rank_at w 0) solo long q
 
     offer : (key : Key) (o : Option Stage) → stage_of (rank_at w 0).opened key ≡ o → is_due o ≡ true → Next scripts (rank_at w 0) (if_waiting (rank_at w 0) key o).state
     offer key None e d = absurd (cc (d))
     offer key (Some Called) e d = absurd (cc (d))
     offer key (Some (Waiting i)) e d =
-        solo_stage scripts (rank_at w 0) (offered (rank_at w 0) key i).state key (Offered i (may_own (rank_at w 0) key)) solo (zero_waits s g 0 (rank_at w 0) (part_of g 0) f solo key (rw e refl)) (rw e refl) refl refl (solo_owns s g 0 (rank_at w 0) (part_of g 0) key i f solo e) (rw e (omega arith))
+        solo_stage scripts (rank_at w 0) (offered (rank_at w 0) key i).state key (Offered i (may_own (rank_at w 0) key)) solo (zero_waits s g 0 (rank_at w 0) (part_of g 0) f solo key (rw e refl)) (rw e refl) refl refl (λ live. live) (solo_owns s g 0 (rank_at w 0) (part_of g 0) key i f solo e) (rw e (omega arith))
     offer key (Some (Offered i own)) e d = absurd (cc (d))
     offer key (Some (Done o)) e d = absurd (cc (d))
 
@@ -347,6 +506,8 @@ solo_step s w g scripts c single alone j solo may =
         call t op h (two (is_idle (thread_at (rank_at w 0) t).waits) (is_built op) b.1).0
     act (Answer t) e h = answer t (two (nat_lt t 8) (is_answerable (rank_at w 0) (thread_at (rank_at w 0) t).waits) e).1
     act (MakeOffer key) e h = offer key (stage_of (rank_at w 0).opened key) refl e
+    act (Leave c) e h = solo_leave scripts (rank_at w 0) c solo (row_at (rank_at w 0).comms c) refl e
+    act (Back c) e h = solo_back scripts (rank_at w 0) c solo (row_at (rank_at w 0).comms c) refl e
     act (Settle key) e h =
         let b = two (is_first (rank_at w 0).rank key.members) (is_ready (rank_at w 0).gathered key) e in
         solo_settle s g 0 scripts (rank_at w 0) (part_of g 0) key f solo b.0 b.1 (verdict_of (rank_at w 0).setting.contexts (rank_at w 0).gathered key (round_of (rank_at w 0).rounds key)) refl
@@ -356,7 +517,7 @@ solo_step s w g scripts c single alone j solo may =
     go (suc r) a lt e h = absurd (omega (arith, lt))
 
 fresh_solo : (s : Setting) → SoloFits (fresh s 0)
-fresh_solo s = record { idle = λ t pos. each t; owns = λ k. refl }
+fresh_solo s = record { idle = λ t pos. each t; owns = λ k. refl; freer = λ c m e. absurd (cc (e)) }
   where
     each : (t : ℕ) → (thread_at (fresh s 0) t).waits ≡ Nothing
     each t = ap (λ (z : ThreadRow). z.waits) (get_or-replicate 8 t idle_thread)

@@ -34,6 +34,10 @@ keys_stand s journal r key run lt e =
     record {
       place = v.place;
       there = v.fits.there;
+      called = v.fits.called;
+      thread = v.thread;
+      thread_in = v.inside;
+      awaited = v.part_waits;
       name = v.fits.is;
       members = v.fits.members;
       parent = parent_of g r key (row_of g v.place).name apart (standing g.comms r key (row_of g v.place).name v.fits.is);

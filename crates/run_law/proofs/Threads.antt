@@ -2,6 +2,9 @@
 use Rattle.std.proofs.Common.{◌≡◌, ◌≢◌, ◌⊎◌, ℕ, ◌<◌, ◌≤◌, ◌==◌, Bool, true, false, List, length, get_or, set, refl, sym, ap, ◌∙◌, subst, inl, inr, arith}
 use Rattle.std.proofs.lemmas.Bool.Decides.{nat_tests}
 use Rattle.mpi_law.specs.Registry.{Registry, RankPart, ThreadPart, blank_part, idle_thread as idle_part, part_of, thread_of}
+use Rattle.mpi_law.specs.declared.setting.Setting.{Setting}
+use Rattle.mpi_law.specs.Registry.{Creating}
+use Rattle.run_law.proofs.Fits.{Waited}
 use Rattle.run_law.proofs.Lists.{set_place}
 
 -- the part and the thread that changed
@@ -34,7 +37,7 @@ thread_elsewhere ps t u b ne = go (set_place ps t b idle_part u)
     go (inr a) = a.1
 
 -- any other thread of any rank stays
-pub others_stay : (g new : Registry) (r t : ℕ) (p : RankPart) (b : ThreadPart) → new.ranks ≡ set g.ranks r p → r < length g.ranks → p.threads ≡ set (part_of g r).threads t b → (q u : ℕ) → ((q ≡ r) → (u ≡ t) → ⊥) → thread_of new q u ≡ thread_of g q u
+others_stay : (g new : Registry) (r t : ℕ) (p : RankPart) (b : ThreadPart) → new.ranks ≡ set g.ranks r p → r < length g.ranks → p.threads ≡ set (part_of g r).threads t b → (q u : ℕ) → ((q ≡ r) → (u ≡ t) → ⊥) → thread_of new q u ≡ thread_of g q u
 others_stay g new r t p b ranks lt threads q u ne = go (q == r) refl
   where
     go : (z : Bool) → (q == r) ≡ z → thread_of new q u ≡ thread_of g q u
@@ -47,3 +50,12 @@ others_stay g new r t p b ranks lt threads q u ne = go (q == r) refl
     go false e =
         let no : q ≢ r = grind (arith, nat_tests, e) in
         ap (λ (z : RankPart). get_or z.threads u idle_part) (part_elsewhere g new r q p ranks no)
+
+-- a creation that another thread waits for goes on to be waited for
+pub waits_still : (s : Setting) (g new : Registry) (r t n : ℕ) (p : RankPart) (b : ThreadPart) → new.ranks ≡ set g.ranks r p → r < length g.ranks → p.threads ≡ set (part_of g r).threads t b → ((thread_of g r t).wait ≡ Creating n → ⊥) → Waited s g n → Waited s new n
+waits_still s g new r t n p b ranks lt threads other v =
+    let stays = others_stay g new r t p b ranks lt threads v.rank v.thread apart in
+    record { rank = v.rank; thread = v.thread; rank_in = v.rank_in; thread_in = v.thread_in; waits = ap (λ (z : ThreadPart). z.wait) stays ∙ v.waits }
+  where
+    apart : v.rank ≡ r → v.thread ≡ t → ⊥
+    apart q u = other (subst (λ (i : ℕ). (thread_of g r i).wait ≡ Creating n) u (subst (λ (i : ℕ). (thread_of g i v.thread).wait ≡ Creating n) q v.waits))

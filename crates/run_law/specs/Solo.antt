@@ -5,8 +5,11 @@ use Rattle.mpi_law.specs.ScriptLists.{AllScripts, script_of}
 use Rattle.mpi_protocol.specs.declared.rows.Stage.{Stage}
 use Rattle.mpi_protocol.specs.declared.rows.Stage.TheVariants.{Called, Waiting, Offered, Done}
 use Rattle.mpi_protocol.specs.declared.rows.Waits.{Waits}
-use Rattle.mpi_protocol.specs.declared.rows.Waits.TheVariants.{Nothing, Creation}
-use Rattle.mpi_protocol.specs.Rank.{Rank, stage_of, thread_at}
+use Rattle.mpi_protocol.specs.declared.rows.Waits.TheVariants.{Nothing, Creation, Freeing, Returned}
+use Rattle.mpi_protocol.specs.Rank.{Rank, stage_of, thread_at, row_at}
+use Rattle.mpi_protocol.specs.declared.rows.CommRow.{CommRow}
+use Rattle.mpi_protocol.specs.declared.rows.CommStage.{CommStage}
+use Rattle.mpi_protocol.specs.declared.rows.CommStage.TheVariants.{Live, Freed, Left}
 
 -- thread 0 of rank 0 alone has a script
 abbrev pub IsSolo : AllScripts → Type 0
@@ -20,10 +23,22 @@ stage_steps (Some (Waiting i)) = 3
 stage_steps (Some (Offered i own)) = 2
 stage_steps (Some (Done o)) = 1
 
+abbrev pub comm_stage_steps : CommStage → ℕ
+comm_stage_steps Live = 0
+comm_stage_steps Freed = 3
+comm_stage_steps Left = 2
+
+-- a freed communicator's leave and give-back and the answer that are still to come
+abbrev pub comm_steps : Option CommRow → ℕ
+comm_steps None = 0
+comm_steps (Some m) = comm_stage_steps m.stage
+
 abbrev pub waits_steps : Rank → Waits → ℕ
 waits_steps x Nothing = 0
 waits_steps x (Creation key target session) = stage_steps (stage_of x.opened key)
+waits_steps x (Freeing c) = comm_steps (row_at x.comms c)
+waits_steps x Returned = 1
 
--- five steps for each operation that is not called, and those of the open creation
+-- five steps for each operation that is not called, and those of the open creation or of the free
 unfoldable pub steps_left : List Op → Rank → ℕ
 steps_left script x = 5 * (length script - (thread_at x 0).calls) + waits_steps x (thread_at x 0).waits

@@ -9,7 +9,7 @@ ghost use Rattle.mpi_base.specs.declared.ops.Op.{Op};
 ghost use Rattle.mpi_base.specs.declared.ops.Reply.{Reply};
 ghost use Rattle.mpi_law.specs.declared.setting.Setting.{Setting};
 ghost use Rattle.mpi_law.specs.ScriptLists.{AllScripts, next_op, script_of};
-ghost use Rattle.mpi_law.specs.Registry.{Registry, Event, Calls, Picks, Replies, Allowed, IsRegistryRun, LiveApart, registry_opening, registry_after, thread_of};
+ghost use Rattle.mpi_law.specs.Registry.{Registry, Event, Calls, Picks, Backs, Replies, Allowed, IsRegistryRun, LiveApart, registry_opening, registry_after, thread_of};
 ghost use Rattle.mpi_law.specs.Closed.{is_closed};
 ghost use Rattle.mpi_base.specs.declared.entries.Choice.{Choice};
 ghost use Rattle.mpi_protocol.specs.Rank.{stage_of, thread_at, round_of};
@@ -31,7 +31,8 @@ pub fn live_contexts_differ()
 {}
 
 /// At every moment of a protocol run, each key that is open at a rank stands there for a creation of the
-/// registry: it has its name and its members. The context of its parent, if it has one, stands for the one
+/// registry, which the rank has called and for which one of its threads waits: it has its name and its
+/// members. The context of its parent, if it has one, stands for the one
 /// communicator with this context of which the rank is a member and which it has not given back.
 pub fn keys_stand_for_creations()
     ensures { (s : Setting) (journal : List Entry) (r : ℕ) (key : Key) → IsProtocolRun s journal → r < s.ranks → is_some (stage_of (rank_at (end_of s journal) r).opened key) ≡ true
@@ -44,16 +45,17 @@ pub fn quiet_ends_are_closed()
         → is_closed s scripts (registry_after s (registry_opening s) (events_of journal)) ≡ true }
 {}
 
-/// What closed means: no pick and no reply is allowed, and no call but one beyond the scripts.
+/// What closed means: no pick, no give-back and no reply is allowed, and no call but one beyond the scripts.
 pub fn closed_is_the_end()
     ensures picks { (s : Setting) (scripts : AllScripts) (g : Registry) (r : ℕ) (key : Key) (pick : Option ℕ) → is_closed s scripts g ≡ true → Allowed s g (Picks r key pick) → ⊥ }
+    ensures backs { (s : Setting) (scripts : AllScripts) (g : Registry) (r c dropped : ℕ) → is_closed s scripts g ≡ true → Allowed s g (Backs r c dropped) → ⊥ }
     ensures replies { (s : Setting) (scripts : AllScripts) (g : Registry) (r t : ℕ) (said : Reply) → is_closed s scripts g ≡ true → r < s.ranks → t < 8 → Allowed s g (Replies r t said) → ⊥ }
     ensures calls { (s : Setting) (scripts : AllScripts) (g : Registry) (r t : ℕ) (op : Op) (now : Bool) → is_closed s scripts g ≡ true → Allowed s g (Calls r t op now)
         → next_op scripts r t (thread_of g r t).calls ≡ None }
 {}
 
-/// Where a drained run ends quiet, each thread has called the whole of its script, as long as groups are
-/// those of one rank.
+/// Where a drained run ends quiet, each thread has called the whole of its script: the groups that may be
+/// called yet have one rank, so no thread waits for another rank.
 pub fn quiet_ends_have_called_all()
     ensures { (s : Setting) (scripts : AllScripts) (journal : List Entry) (r t : ℕ) → IsProtocolRun s journal → IsDrained scripts (opening s) journal → IsQuiet (end_of s journal) scripts
         → r < s.ranks → t < 8 → calls_of r t journal ≡ script_of scripts r t }

@@ -6,7 +6,7 @@ use Rattle.std.proofs.lemmas.List.Splits.{join_with_byte-slice_split}
 use Rattle.std.specs.List.{list_all, AllByRecursion}
 use Rattle.mpi_base.specs.Texts.{IsName, IsPsetName, IsTag, is_name_byte, is_pset_byte, is_tag_byte}
 use Rattle.mpi_base.specs.declared.ops.Op.{Op}
-use Rattle.mpi_base.specs.declared.ops.Op.TheVariants.{Session, Pset, Create, Dup}
+use Rattle.mpi_base.specs.declared.ops.Op.TheVariants.{Session, Pset, Create, Dup, Free}
 use Rattle.script_text.specs.Spelling.{in_line, quoted_text, tokens_of, line_of, IsOp, has_line_feed}
 use Rattle.script_text.specs.Tokens.{tokens_in, Found, op_at, sole_item}
 use Rattle.script_text.proofs.Cuts.{IsPlain, tokens_again, line_is_one}
@@ -43,6 +43,7 @@ plain_tokens (Session n) h = (refl, (plain_name n h, tt))
 plain_tokens (Pset s p g) h = (refl, (plain_name s h.0, (plain_pset_name p h.1, (refl, (plain_name g h.2, tt)))))
 plain_tokens (Create g t c) h = (refl, (plain_name g h.0, (plain_quoted t h.1, (refl, (plain_name c h.2, tt)))))
 plain_tokens (Dup c d) h = (refl, (plain_name c h.0, (refl, (plain_name d h.1, tt))))
+plain_tokens (Free c) h = (refl, (plain_name c h, tt))
 
 -- the tokens of an operation's line
 line_again : (op : Op) → IsOp op → tokens_in (line_of op) ≡ tokens_of op
@@ -50,6 +51,7 @@ line_again (Session n) h = let p = plain_tokens (Session n) h in tokens_again _ 
 line_again (Pset s p g) h = let q = plain_tokens (Pset s p g) h in tokens_again _ _ q.0 q.1
 line_again (Create g t c) h = let p = plain_tokens (Create g t c) h in tokens_again _ _ p.0 p.1
 line_again (Dup c d) h = let p = plain_tokens (Dup c d) h in tokens_again _ _ p.0 p.1
+line_again (Free c) h = let p = plain_tokens (Free c) h in tokens_again _ _ p.0 p.1
 
 -- nothing at the end
 append_nil : {A : Type 0} (xs : List A) → xs ++ [] ≡ xs

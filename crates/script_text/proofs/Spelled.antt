@@ -3,9 +3,9 @@ use Rattle.std.proofs.Common.{◌≡◌, ℕ, Bool, true, false, cond, List, [],
 use Rattle.mpi_base.proofs.KeyFacts.{same_bytes}
 use Rattle.mpi_base.specs.Texts.{IsName, IsPsetName, IsTag}
 use Rattle.mpi_base.specs.declared.ops.Op.{Op}
-use Rattle.mpi_base.specs.declared.ops.Op.TheVariants.{Session, Pset, Create, Dup}
+use Rattle.mpi_base.specs.declared.ops.Op.TheVariants.{Session, Pset, Create, Dup, Free}
 use Rattle.script_text.specs.Spelling.{quoted_text, tokens_of, IsOp}
-use Rattle.script_text.specs.Tokens.{◌>>=◌, text_if, is_name, is_pset_name, is_tag, is_quoted, middle_of, name_in, pset_name_in, tag_in, arrow_in, shown_at, target_at, session_at, pset_at, create_at, dup_at, fields_at, op_at}
+use Rattle.script_text.specs.Tokens.{◌>>=◌, text_if, is_name, is_pset_name, is_tag, is_quoted, middle_of, name_in, pset_name_in, tag_in, arrow_in, shown_at, target_at, session_at, pset_at, create_at, dup_at, free_at, fields_at, op_at}
 use Rattle.script_text.proofs.Forms.{name_form, name_test, pset_name_form, pset_name_test, tag_form, tag_test, quoted_again, inside_again, quoted_found}
 
 -- where the second of two steps finds something, the first did
@@ -154,6 +154,15 @@ dup_found ts x h =
     let e = fc.1 ∙ ap (λ (r : List (List ℕ)). c.0.0 ∷ r) fd.1 in
     subst (Tells (codes "dup" ∷ ts)) q ((fc.0, fd.0), ap (λ (r : List (List ℕ)). codes "dup" ∷ r) e)
 
+-- the same of `free`
+free_found : (ts : List (List ℕ)) (x : Op × List (List ℕ)) → free_at ts ≡ Some x → Tells (codes "free" ∷ ts) x
+unfolding free_at
+free_found ts x h =
+    let n = bound (shown_at name_in ts) (λ n. Some (Free n.0, n.1)) x h in
+    let f = name_taken ts n.0 n.1 in
+    let p : (Free n.0.0, n.0.1) ≡ x = cc in
+    subst (Tells (codes "free" ∷ ts)) p (f.0, ap (λ (r : List (List ℕ)). codes "free" ∷ r) f.1)
+
 -- the word is that of the operation
 fields_found : (w : List ℕ) (ts : List (List ℕ)) (x : Op × List (List ℕ)) → fields_at w ts ≡ Some x → Tells (w ∷ ts) x
 unfolding fields_at
@@ -162,19 +171,23 @@ fields_found w ts x h = session (bytes_eq w (codes "session")) refl h
     word_is : (word : List ℕ) → bytes_eq w word ≡ true → Tells (word ∷ ts) x → Tells (w ∷ ts) x
     word_is word e t = subst (λ (v : List ℕ). Tells (v ∷ ts) x) (sym (same_bytes w word e)) t
 
-    dup : (b : Bool) → bytes_eq w (codes "dup") ≡ b → cond b (dup_at ts) None ≡ Some x → Tells (w ∷ ts) x
-    dup true e k = word_is (codes "dup") e (dup_found ts x k)
-    dup false e k = absurd (cc)
+    free : (b : Bool) → bytes_eq w (codes "free") ≡ b → cond b (free_at ts) None ≡ Some x → Tells (w ∷ ts) x
+    free true e k = word_is (codes "free") e (free_found ts x k)
+    free false e k = absurd (cc)
 
-    create : (b : Bool) → bytes_eq w (codes "create") ≡ b → cond b (create_at ts) (cond (bytes_eq w (codes "dup")) (dup_at ts) None) ≡ Some x → Tells (w ∷ ts) x
+    dup : (b : Bool) → bytes_eq w (codes "dup") ≡ b → cond b (dup_at ts) (cond (bytes_eq w (codes "free")) (free_at ts) None) ≡ Some x → Tells (w ∷ ts) x
+    dup true e k = word_is (codes "dup") e (dup_found ts x k)
+    dup false e k = free (bytes_eq w (codes "free")) refl k
+
+    create : (b : Bool) → bytes_eq w (codes "create") ≡ b → cond b (create_at ts) (cond (bytes_eq w (codes "dup")) (dup_at ts) (cond (bytes_eq w (codes "free")) (free_at ts) None)) ≡ Some x → Tells (w ∷ ts) x
     create true e k = word_is (codes "create") e (create_found ts x k)
     create false e k = dup (bytes_eq w (codes "dup")) refl k
 
-    pset : (b : Bool) → bytes_eq w (codes "pset") ≡ b → cond b (pset_at ts) (cond (bytes_eq w (codes "create")) (create_at ts) (cond (bytes_eq w (codes "dup")) (dup_at ts) None)) ≡ Some x → Tells (w ∷ ts) x
+    pset : (b : Bool) → bytes_eq w (codes "pset") ≡ b → cond b (pset_at ts) (cond (bytes_eq w (codes "create")) (create_at ts) (cond (bytes_eq w (codes "dup")) (dup_at ts) (cond (bytes_eq w (codes "free")) (free_at ts) None))) ≡ Some x → Tells (w ∷ ts) x
     pset true e k = word_is (codes "pset") e (pset_found ts x k)
     pset false e k = create (bytes_eq w (codes "create")) refl k
 
-    session : (b : Bool) → bytes_eq w (codes "session") ≡ b → cond b (session_at ts) (cond (bytes_eq w (codes "pset")) (pset_at ts) (cond (bytes_eq w (codes "create")) (create_at ts) (cond (bytes_eq w (codes "dup")) (dup_at ts) None))) ≡ Some x → Tells (w ∷ ts) x
+    session : (b : Bool) → bytes_eq w (codes "session") ≡ b → cond b (session_at ts) (cond (bytes_eq w (codes "pset")) (pset_at ts) (cond (bytes_eq w (codes "create")) (create_at ts) (cond (bytes_eq w (codes "dup")) (dup_at ts) (cond (bytes_eq w (codes "free")) (free_at ts) None)))) ≡ Some x → Tells (w ∷ ts) x
     session true e k = word_is (codes "session") e (session_found ts x k)
     session false e k = pset (bytes_eq w (codes "pset")) refl k
 
@@ -211,10 +224,11 @@ target_again n ts h = rw (arrow_again (n ∷ ts)) (name_again n ts h)
 
 -- an operation's tokens are read again, whatever follows them
 pub op_again : (op : Op) (ts : List (List ℕ)) → IsOp op → op_at (tokens_of op ++ ts) ≡ Some (op, ts)
-unfolding op_at fields_at session_at pset_at create_at dup_at
+unfolding op_at fields_at session_at pset_at create_at dup_at free_at
 op_again (Session n) ts h = rw (name_again n ts h) refl
 op_again (Pset s p g) ts h =
     rw (name_again s (p ∷ codes "->" ∷ g ∷ ts) h.0, pset_name_again p (codes "->" ∷ g ∷ ts) h.1, target_again g ts h.2) refl
 op_again (Create g t c) ts h =
     rw (name_again g (quoted_text t ∷ codes "->" ∷ c ∷ ts) h.0, tag_again t (codes "->" ∷ c ∷ ts) h.1, target_again c ts h.2) refl
 op_again (Dup c d) ts h = rw (name_again c (codes "->" ∷ d ∷ ts) h.0, target_again d ts h.1) refl
+op_again (Free c) ts h = rw (name_again c ts h) refl

@@ -3,7 +3,7 @@ use Rattle.std.specs.Prelude.{ℕ, ◌==◌, Bool, List, [], ◌∷◌, ◌++◌
 use Rattle.std.specs.List.{list_any, join_with_byte}
 use Rattle.mpi_base.specs.Texts.{IsName, IsPsetName, IsTag}
 use Rattle.mpi_base.specs.declared.ops.Op.{Op}
-use Rattle.mpi_base.specs.declared.ops.Op.TheVariants.{Session, Pset, Create, Dup}
+use Rattle.mpi_base.specs.declared.ops.Op.TheVariants.{Session, Pset, Create, Dup, Free}
 
 -- tokens with one space between two
 abbrev pub in_line : List (List ℕ) → List ℕ
@@ -19,6 +19,7 @@ tokens_of (Session target) = codes "session" ∷ target ∷ []
 tokens_of (Pset session set target) = codes "pset" ∷ session ∷ set ∷ codes "->" ∷ target ∷ []
 tokens_of (Create group tag target) = codes "create" ∷ group ∷ quoted_text tag ∷ codes "->" ∷ target ∷ []
 tokens_of (Dup comm target) = codes "dup" ∷ comm ∷ codes "->" ∷ target ∷ []
+tokens_of (Free comm) = codes "free" ∷ comm ∷ []
 
 -- the line of an operation, without its line feed
 abbrev pub line_of : Op → List ℕ
@@ -30,6 +31,7 @@ IsOp (Session target) = IsName target
 IsOp (Pset session set target) = IsName session × IsPsetName set × IsName target
 IsOp (Create group tag target) = IsName group × IsTag tag × IsName target
 IsOp (Dup comm target) = IsName comm × IsName target
+IsOp (Free comm) = IsName comm
 
 -- whether a text has a line feed
 abbrev pub has_line_feed : List ℕ → Bool

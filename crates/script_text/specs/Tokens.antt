@@ -1,9 +1,10 @@
--- The tokens of a line, and what stands in front of tokens.
+-- The tokens of a line, and what stands in front of tokens, for the private steps of reading; no public contract rests on
+-- it.
 use Rattle.std.specs.Prelude.{◌≡◌, ℕ, ◌-◌, ◌==◌, ◌&&◌, Bool, true, false, if◌then◌else◌, List, [], ◌∷◌, length, take, drop, Option, Some, None, codes, bytes_eq, nat_le, nat_lt, slice_index}
 use Rattle.std.specs.List.{list_all, slice_split}
 use Rattle.mpi_base.specs.Texts.{begins_with_letter_lem, is_name_byte, is_pset_byte, is_tag_byte}
 use Rattle.mpi_base.specs.declared.ops.Op.{Op}
-use Rattle.mpi_base.specs.declared.ops.Op.TheVariants.{Session, Pset, Create, Dup}
+use Rattle.mpi_base.specs.declared.ops.Op.TheVariants.{Session, Pset, Create, Dup, Free}
 
 -- the parts of a line round its spaces
 abbrev pub tokens_in : List ℕ → List (List ℕ)
@@ -114,6 +115,11 @@ dup_at ts = do
   d ← target_at c.1
   Some (Dup c.0 d.0, d.1)
 
+unfoldable pub free_at : List (List ℕ) → Found Op
+free_at ts = do
+  c ← shown_at name_in ts
+  Some (Free c.0, c.1)
+
 -- the fields behind an operation's word
 unfoldable pub fields_at : List ℕ → List (List ℕ) → Found Op
 fields_at word ts =
@@ -121,6 +127,7 @@ fields_at word ts =
     else if bytes_eq word (codes "pset") then pset_at ts
     else if bytes_eq word (codes "create") then create_at ts
     else if bytes_eq word (codes "dup") then dup_at ts
+    else if bytes_eq word (codes "free") then free_at ts
     else None
 
 -- an operation, and the tokens behind it

@@ -1,7 +1,7 @@
 //! Tokens of a line, and the fields of operations.
 ghost use Rattle.std.specs.Prelude.{◌≡◌, ◌==◌, ◌<◌, if◌then◌else◌, Some, None, IfSome, length, position, bytes_eq, codes};
 ghost use Rattle.std.specs.Option.{option_copied};
-ghost use Rattle.script_text.specs.Tokens.{MirrorsBy, token_at, shown_at, name_in, pset_name_in, arrow_in, target_at, session_at, pset_at, create_at, dup_at, fields_at, op_at, tag_in, text_if, is_name, is_pset_name, is_tag, is_quoted, middle_of, tokens_in, are_none};
+ghost use Rattle.script_text.specs.Tokens.{MirrorsBy, token_at, shown_at, name_in, pset_name_in, arrow_in, target_at, session_at, pset_at, create_at, dup_at, free_at, fields_at, op_at, tag_in, text_if, is_name, is_pset_name, is_tag, is_quoted, middle_of, tokens_in, are_none};
 
 use mpi_base::{Name, Op, PsetName, StringTag};
 use std::marker::Model;
@@ -164,6 +164,13 @@ impl<'a> Reader<'a> {
         Some(Op::Dup(comm, self.target()?))
     }
 
+    #[tactic(auto, unfolding(crate::specs::Tokens::free_at))]
+    fn free(&mut self) -> Option<Op>
+        ensures { MirrorsBy (λ op. op) result self.new (free_at self.old) }
+    {
+        Some(Op::Free(self.name()?))
+    }
+
     #[tactic(auto, unfolding(crate::specs::Tokens::fields_at))]
     fn fields(&mut self, word: &[u8]) -> Option<Op>
         ensures { MirrorsBy (λ op. op) result self.new (fields_at word.now self.old) }
@@ -173,6 +180,7 @@ impl<'a> Reader<'a> {
             b"pset" => self.pset(),
             b"create" => self.create(),
             b"dup" => self.dup(),
+            b"free" => self.free(),
             _ => None,
         }
     }

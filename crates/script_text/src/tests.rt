@@ -10,6 +10,7 @@ fn lines_are_read_and_written_again(rt: HostRuntime) {
         b"create g \"a\" -> c".as_slice(),
         b"create g \"\" -> c_2".as_slice(),
         b"dup c -> d".as_slice(),
+        b"free c".as_slice(),
     ] {
         let op = read_line(line).expect(&rt, "a line of an operation");
         let mut out = Line::new();
@@ -36,6 +37,10 @@ fn other_lines_are_not_read(rt: HostRuntime) {
         b"dup c  -> d".as_slice(),
         b"dup c -> d e".as_slice(),
         b"dup \"c\" -> d".as_slice(),
+        b"free".as_slice(),
+        b"free c d".as_slice(),
+        b"free  c".as_slice(),
+        b"free -> c".as_slice(),
         b"".as_slice(),
     ] {
         assert!(rt; read_line(line).is_none());
@@ -53,6 +58,8 @@ fn fields_stand_in_written_order(rt: HostRuntime) {
     let target = Name::new(b"d").expect(&rt, "a name");
     let op = read_line(b"dup c -> d");
     assert!(rt; op == Some(Op::Dup(comm, target)));
+    let comm = Name::new(b"c").expect(&rt, "a name");
+    assert!(rt; read_line(b"free c") == Some(Op::Free(comm)));
 }
 
 #[test]

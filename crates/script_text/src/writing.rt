@@ -71,5 +71,9 @@ pub fn write_op(op: &Op, out: &mut Line)
             put(out, comm.bytes());
             put_target(out, target);
         }
+        Op::Free(comm) => {
+            put(out, b"free ");
+            put(out, comm.bytes());
+        }
     }
 }

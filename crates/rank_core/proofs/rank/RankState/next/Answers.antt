@@ -1,7 +1,7 @@
 use Rattle.std.proofs.Common.{◌≡◌, rules}
 use Rattle.std.specs.Prelude.{option_copied, option_map}
-use Rattle.mpi_base.specs.declared.entries.Act.TheVariants.{Answer, Offer as MakeOffer, Settle}
-use Rattle.rank_core.proofs.NextFacts.{next_answer-result, next_settle-result, next_offer-result}
+use Rattle.mpi_base.specs.declared.entries.Act.TheVariants.{Answer, Offer as MakeOffer, Settle, Leave, Back}
+use Rattle.rank_core.proofs.NextFacts.{next_answer-result, next_settle-result, next_offer-result, next_leave-result, next_back-result}
 use Rattle.rank_core.proofs.rank.RankState.next.Goals as goal
 
 pub returns-in-Answer-clause-found : goal.returns-in-Answer-clause-found
@@ -33,3 +33,23 @@ pub returns-in-Offer-clause-none : goal.returns-in-Offer-clause-none
 returns-in-Offer-clause-none g c =
     let is : c.map-in-Offer.result ≡ option_map (λ k. MakeOffer k) c.next_offer.result = search rules in
     rw c.in-Offer.is (next_offer-result c.args.self.now.state (option_copied c.args.after) c.next_offer.result c.map-in-Offer.result c.next_offer.ensures is).1
+
+pub returns-in-Leave-clause-found : goal.returns-in-Leave-clause-found
+returns-in-Leave-clause-found g c =
+    let is : c.map-in-Leave.result ≡ option_map (λ d. Leave d) c.next_leave.result = search rules in
+    rw c.in-Leave.is (next_leave-result c.args.self.now.state (option_copied c.args.after) c.next_leave.result c.map-in-Leave.result c.next_leave.ensures is).0
+
+pub returns-in-Leave-clause-none : goal.returns-in-Leave-clause-none
+returns-in-Leave-clause-none g c =
+    let is : c.map-in-Leave.result ≡ option_map (λ d. Leave d) c.next_leave.result = search rules in
+    rw c.in-Leave.is (next_leave-result c.args.self.now.state (option_copied c.args.after) c.next_leave.result c.map-in-Leave.result c.next_leave.ensures is).1
+
+pub returns-in-Back-clause-found : goal.returns-in-Back-clause-found
+returns-in-Back-clause-found g c =
+    let is : c.map-in-Back.result ≡ option_map (λ d. Back d) c.next_back.result = search rules in
+    rw c.in-Back.is (next_back-result c.args.self.now.state (option_copied c.args.after) c.next_back.result c.map-in-Back.result c.next_back.ensures is).0
+
+pub returns-in-Back-clause-none : goal.returns-in-Back-clause-none
+returns-in-Back-clause-none g c =
+    let is : c.map-in-Back.result ≡ option_map (λ d. Back d) c.next_back.result = search rules in
+    rw c.in-Back.is (next_back-result c.args.self.now.state (option_copied c.args.after) c.next_back.result c.map-in-Back.result c.next_back.ensures is).1
