@@ -4,12 +4,14 @@ use Rattle.mpi_base.specs.Classes.{text_of_lem}
 use Rattle.mpi_base.specs.declared.errors.ErrClass.{ErrClass}
 use Rattle.mpi_base.specs.declared.errors.ErrClass.TheVariants as class
 use Rattle.mpi_base.specs.declared.entries.Act.{Act}
-use Rattle.mpi_base.specs.declared.entries.Act.TheVariants.{Call, Answer, Offer, Settle, Leave, Back}
+use Rattle.mpi_base.specs.declared.entries.Act.TheVariants.{Call, Answer, Deliver, Offer, Settle, Leave, Back}
 use Rattle.mpi_base.specs.declared.entries.Said.{Said}
 use Rattle.mpi_base.specs.declared.entries.Said.TheVariants.{Own, Zero, Ready, Retry, Picked, Exhausted, Shared}
-use Rattle.mpi_base.specs.declared.ops.Reply.{Reply}
-use Rattle.mpi_base.specs.declared.ops.Reply.TheVariants.{Fine, Refused, Null, Group, Comm}
+use Rattle.mpi_base.specs.declared.replies.Reply.{Reply}
+use Rattle.mpi_base.specs.declared.replies.Reply.TheVariants.{Fine, Refused, Null, Group, Comm}
 use Rattle.mpi_base.specs.declared.entries.Entry.{Entry}
+use Rattle.mpi_base.specs.declared.entries.Brief.{Brief}
+use Rattle.mpi_base.specs.declared.messages.Matched.{Matched}
 use Rattle.script_text.specs.Spelling.{tokens_of}
 use Rattle.script_text.specs.Tokens.{Found, ◌>>=◌, token_at, op_at}
 use Rattle.script_text.proofs.Spelled.{op_again}
@@ -60,6 +62,7 @@ act_again : (a : Act) (ts : List (List ℕ)) → IsAct a → act_at (act_tokens 
 unfolding act_at act_behind
 act_again (Call t op) ts h = let l = h.0 in rw (number_again t (tokens_of op ++ ts) (omega (arith, l)), op_again op ts h.1) refl
 act_again (Answer t) ts h = rw (number_again t ts (omega (arith, h))) refl
+act_again (Deliver f) ts h = absurd h
 act_again (Offer k) ts h = rw (key_again k ts h) refl
 act_again (Settle k) ts h = rw (key_again k ts h) refl
 act_again (Leave c) ts h = rw (number_again c ts (omega (arith, h))) refl
@@ -140,25 +143,39 @@ reply_again (Some (Comm c r s)) h =
       labelled_again (codes "rank=") r (labelled_text (codes "size=") s ∷ []) (omega (arith, h.1)),
       labelled_again (codes "size=") s [] (omega (arith, h.2)),
     ) refl
+reply_again _ h = absurd h
 
 -- an entry of these tokens
 entry_in : List (List ℕ) → Option Entry
 entry_in ts =
     number_at ts >>= λ k. act_at k.1 >>= λ a. said_at a.1 >>= λ s. dropped_at s.1 >>= λ d. reply_at d.1 >>= λ r.
-    Some (record { choice = record { rank = k.0; act = a.0 }; said = s.0; dropped = d.0; reply = r })
+    Some (record { choice = record { rank = k.0; act = a.0 }; brief = None; said = s.0; matched = None; dropped = d.0; reply = r })
+
+-- an entry with another brief and another match
+with_others : Entry → Option Brief → Option Matched → Entry
+with_others e brief matched = record { choice = e.choice; brief = brief; said = e.said; matched = matched; dropped = e.dropped; reply = e.reply }
+
+-- an entry is that of its parts
+entry_is : (e : Entry) → with_others e e.brief e.matched ≡ e
+unfolding with_others
+entry_is e = refl
 
 -- an entry is read again from its tokens
 entry_again : (e : Entry) → IsEntry e → entry_in (entry_tokens e) ≡ Some e
-unfolding entry_in
+unfolding entry_in with_others
 entry_again e h =
     let k = h.rank in
+    let x = entry_is e in
+    let b = h.brief in
+    let m = h.matched in
+    let same : with_others e None None ≡ e = cc (x, b, m) in
     rw (
       number_again e.choice.rank (act_tokens e.choice.act ++ (said_part e.said ++ (dropped_part e.dropped ++ reply_part e.reply))) (omega (arith, k)),
       act_again e.choice.act (said_part e.said ++ (dropped_part e.dropped ++ reply_part e.reply)) h.act,
       said_again e.said e.dropped e.reply h.said,
       dropped_again e.dropped e.reply h.dropped,
       reply_again e.reply h.reply,
-    ) refl
+    ) (ap (λ (y : Entry). Some y) same)
 
 -- two entries with the same tokens are one
 pub one_entry : (a b : Entry) → IsEntry a → IsEntry b → entry_tokens a ≡ entry_tokens b → a ≡ b

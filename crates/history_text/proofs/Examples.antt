@@ -5,8 +5,8 @@ use Rattle.mpi_base.specs.declared.errors.ErrClass.TheVariants as class
 use Rattle.mpi_base.specs.declared.keys.Kind.TheVariants as kind
 use Rattle.mpi_base.specs.declared.keys.Key.{Key}
 use Rattle.mpi_base.specs.declared.ops.Op.TheVariants.{Session, Pset, Create, Dup, Free}
-use Rattle.mpi_base.specs.declared.ops.Reply.{Reply}
-use Rattle.mpi_base.specs.declared.ops.Reply.TheVariants.{Fine, Refused, Group, Comm}
+use Rattle.mpi_base.specs.declared.replies.Reply.{Reply}
+use Rattle.mpi_base.specs.declared.replies.Reply.TheVariants.{Fine, Refused, Group, Comm}
 use Rattle.mpi_base.specs.declared.entries.Act.{Act}
 use Rattle.mpi_base.specs.declared.entries.Act.TheVariants.{Call, Answer, Offer, Settle, Leave, Back}
 use Rattle.mpi_base.specs.declared.entries.Said.{Said}
@@ -17,11 +17,11 @@ use Rattle.history_text.proofs.Again.{own}
 
 -- an entry of its parts, where nothing is dropped
 abbrev entry : ℕ → Act → Option Said → Option Reply → Entry
-entry rank act said reply = record { choice = record { rank = rank; act = act }; said = said; dropped = None; reply = reply }
+entry rank act said reply = record { choice = record { rank = rank; act = act }; brief = None; said = said; matched = None; dropped = None; reply = reply }
 
 -- the entry of a give-back
 abbrev back : ℕ → ℕ → ℕ → Entry
-back rank ctx count = record { choice = record { rank = rank; act = Back ctx }; said = None; dropped = Some count; reply = None }
+back rank ctx count = record { choice = record { rank = rank; act = Back ctx }; brief = None; said = None; matched = None; dropped = Some count; reply = None }
 
 -- the key of a communicator from a group
 abbrev from : List ℕ → List ℕ → Key

@@ -1,5 +1,5 @@
 -- Parts of an entry's text, joined.
-use Rattle.std.proofs.Common.{◌≡◌, ℕ, zero, suc, ◌+◌, ◌<◌, List, [], ◌∷◌, ◌++◌, length, map, take, get_or, slice_get, Some, codes, decimal, refl, sym, ap, ◌∙◌, arith, append_assoc, add-one, length-append}
+use Rattle.std.proofs.Common.{◌≡◌, ℕ, zero, suc, ◌+◌, ◌<◌, List, [], ◌∷◌, ◌++◌, length, map, take, get_or, slice_get, Some, codes, decimal, refl, sym, ap, ◌∙◌, arith, append_assoc, add-one, length-append, true}
 use Rattle.std.proofs.lemmas.Bool.Decides.{nat_tests}
 use Rattle.std.proofs.lemmas.Option.{get_or_from_slice_get}
 use Rattle.std.specs.List.{join_with_byte}
@@ -7,7 +7,7 @@ use Rattle.mpi_base.specs.declared.ops.Op.{Op}
 use Rattle.mpi_base.specs.declared.ops.Op.TheVariants.{Session, Pset, Create, Dup, Free}
 use Rattle.mpi_base.specs.declared.entries.Said.TheVariants.{Exhausted}
 use Rattle.mpi_base.specs.declared.entries.Entry.{Entry}
-use Rattle.script_text.specs.Spelling.{in_line, quoted_text, tokens_of, line_of}
+use Rattle.script_text.specs.Spelling.{in_line, is_spelled, quoted_text, tokens_of, line_of}
 use Rattle.history_text.specs.Text.{act_tokens, said_tokens, said_part, dropped_part, reply_part, entry_text}
 use Rattle.history_text.specs.Parts.{Adds, spaced_text, item_text}
 
@@ -21,12 +21,13 @@ line_from t [] = sym (append_nil t)
 line_from t (u ∷ us) = ap (λ (r : List ℕ). t ++ 32 ∷ r) (line_from u us)
 
 -- an operation's line behind a space
-pub op_spaced : (op : Op) → spaced_text (tokens_of op) ≡ 32 ∷ line_of op
-op_spaced (Session n) = ap (λ (r : List ℕ). 32 ∷ r) (sym (line_from (codes "session") (n ∷ [])))
-op_spaced (Pset s p g) = ap (λ (r : List ℕ). 32 ∷ r) (sym (line_from (codes "pset") (s ∷ p ∷ codes "->" ∷ g ∷ [])))
-op_spaced (Create g t c) = ap (λ (r : List ℕ). 32 ∷ r) (sym (line_from (codes "create") (g ∷ quoted_text t ∷ codes "->" ∷ c ∷ [])))
-op_spaced (Dup c d) = ap (λ (r : List ℕ). 32 ∷ r) (sym (line_from (codes "dup") (c ∷ codes "->" ∷ d ∷ [])))
-op_spaced (Free c) = ap (λ (r : List ℕ). 32 ∷ r) (sym (line_from (codes "free") (c ∷ [])))
+pub op_spaced : (op : Op) → is_spelled op ≡ true → spaced_text (tokens_of op) ≡ 32 ∷ line_of op
+op_spaced (Session n) h = ap (λ (r : List ℕ). 32 ∷ r) (sym (line_from (codes "session") (n ∷ [])))
+op_spaced (Pset s p g) h = ap (λ (r : List ℕ). 32 ∷ r) (sym (line_from (codes "pset") (s ∷ p ∷ codes "->" ∷ g ∷ [])))
+op_spaced (Create g t c) h = ap (λ (r : List ℕ). 32 ∷ r) (sym (line_from (codes "create") (g ∷ quoted_text t ∷ codes "->" ∷ c ∷ [])))
+op_spaced (Dup c d) h = ap (λ (r : List ℕ). 32 ∷ r) (sym (line_from (codes "dup") (c ∷ codes "->" ∷ d ∷ [])))
+op_spaced (Free c) h = ap (λ (r : List ℕ). 32 ∷ r) (sym (line_from (codes "free") (c ∷ [])))
+op_spaced _ h = absurd (cc (h))
 
 -- spaces before the tokens of two lists
 spaced-append : (xs ys : List (List ℕ)) → spaced_text (xs ++ ys) ≡ spaced_text xs ++ spaced_text ys

@@ -13,11 +13,11 @@ use Rattle.mpi_base.specs.declared.keys.Kind.{Kind}
 use Rattle.mpi_base.specs.declared.keys.Kind.TheVariants as kind
 use Rattle.mpi_base.specs.declared.keys.Key.{Key}
 use Rattle.mpi_base.specs.declared.entries.Act.{Act}
-use Rattle.mpi_base.specs.declared.entries.Act.TheVariants.{Call, Answer, Offer, Settle, Leave, Back}
+use Rattle.mpi_base.specs.declared.entries.Act.TheVariants.{Call, Answer, Deliver, Offer, Settle, Leave, Back}
 use Rattle.mpi_base.specs.declared.entries.Said.{Said}
 use Rattle.mpi_base.specs.declared.entries.Said.TheVariants.{Own, Zero, Ready, Retry, Picked, Exhausted, Shared}
-use Rattle.mpi_base.specs.declared.ops.Reply.{Reply}
-use Rattle.mpi_base.specs.declared.ops.Reply.TheVariants.{Fine, Refused, Null, Group, Comm}
+use Rattle.mpi_base.specs.declared.replies.Reply.{Reply}
+use Rattle.mpi_base.specs.declared.replies.Reply.TheVariants.{Fine, Refused, Null, Group, Comm}
 use Rattle.mpi_base.specs.declared.entries.Entry.{Entry}
 use Rattle.script_text.specs.Spelling.{has_line_feed}
 use Rattle.script_text.specs.Tokens.{tokens_in}
@@ -76,6 +76,7 @@ plain_key k h = go k.kind
 plain_act : (a : Act) → IsAct a → AllByRecursion IsPlain (act_tokens a)
 plain_act (Call t op) h = let l = h.0 in (refl, (plain_decimal t (omega (arith, l)), plain_tokens op h.1))
 plain_act (Answer t) h = (refl, (plain_decimal t (omega (arith, h)), tt))
+plain_act (Deliver f) h = absurd h
 plain_act (Offer k) h = (refl, plain_key k h)
 plain_act (Settle k) h = (refl, plain_key k h)
 plain_act (Leave c) h = (refl, (plain_decimal c (omega (arith, h)), tt))
@@ -119,6 +120,7 @@ plain_reply (Some Null) h = (refl, (refl, tt))
 plain_reply (Some (Group ms)) h = (refl, (refl, (plain_list ms h, tt)))
 plain_reply (Some (Comm c r s)) h =
     (refl, (refl, (plain_labelled (codes "ctx=") c refl h.0, (plain_labelled (codes "rank=") r refl h.1, (plain_labelled (codes "size=") s refl h.2, tt)))))
+plain_reply _ h = absurd h
 
 -- what holds of the tokens of two lists holds of both in a row
 both : (xs ys : List (List ℕ)) → AllByRecursion IsPlain xs → AllByRecursion IsPlain ys → AllByRecursion IsPlain (xs ++ ys)

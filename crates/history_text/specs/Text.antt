@@ -1,5 +1,5 @@
--- The text of an entry.
-use Rattle.std.specs.Prelude.{◌≡◌, ℕ, ◌<◌, ◌^◌, Bool, true, false, List, [], ◌∷◌, ◌++◌, map, Option, Some, None, codes, decimal}
+-- The text of an entry. Operations that are not spelled yet, deliveries, matches and some replies have none so far.
+use Rattle.std.specs.Prelude.{◌≡◌, ℕ, ◌<◌, ◌^◌, ◌&&◌, Bool, true, false, List, [], ◌∷◌, ◌++◌, map, Option, Some, None, codes, decimal}
 use Rattle.std.specs.Option.{is_some, is_none}
 use Rattle.std.specs.List.{flat_map, join_with_byte}
 use Rattle.mpi_base.specs.Texts.{IsTag}
@@ -9,13 +9,13 @@ use Rattle.mpi_base.specs.declared.keys.Kind.{Kind}
 use Rattle.mpi_base.specs.declared.keys.Kind.TheVariants as kind
 use Rattle.mpi_base.specs.declared.keys.Key.{Key}
 use Rattle.mpi_base.specs.declared.entries.Act.{Act}
-use Rattle.mpi_base.specs.declared.entries.Act.TheVariants.{Call, Answer, Offer, Settle, Leave, Back}
+use Rattle.mpi_base.specs.declared.entries.Act.TheVariants.{Call, Answer, Deliver, Offer, Settle, Leave, Back}
 use Rattle.mpi_base.specs.declared.entries.Said.{Said}
 use Rattle.mpi_base.specs.declared.entries.Said.TheVariants.{Own, Zero, Ready, Retry, Picked, Exhausted, Shared}
-use Rattle.mpi_base.specs.declared.ops.Reply.{Reply}
-use Rattle.mpi_base.specs.declared.ops.Reply.TheVariants.{Fine, Refused, Null, Group, Comm}
+use Rattle.mpi_base.specs.declared.replies.Reply.{Reply}
+use Rattle.mpi_base.specs.declared.replies.Reply.TheVariants.{Fine, Refused, Null, Group, Comm}
 use Rattle.mpi_base.specs.declared.entries.Entry.{Entry}
-use Rattle.script_text.specs.Spelling.{in_line, quoted_text, tokens_of, IsOp}
+use Rattle.script_text.specs.Spelling.{in_line, is_spelled, quoted_text, tokens_of, IsOp}
 
 -- ranks between brackets, with a comma between two
 abbrev pub list_text : List ℕ → List ℕ
@@ -41,6 +41,7 @@ key_tokens k = kind_tokens k.kind k
 abbrev pub act_tokens : Act → List (List ℕ)
 act_tokens (Call thread op) = codes "call" ∷ decimal thread ∷ tokens_of op
 act_tokens (Answer thread) = codes "answer" ∷ decimal thread ∷ []
+act_tokens (Deliver from) = []
 act_tokens (Offer k) = codes "offer" ∷ key_tokens k
 act_tokens (Settle k) = codes "settle" ∷ key_tokens k
 act_tokens (Leave c) = codes "leave" ∷ decimal c ∷ []
@@ -77,6 +78,7 @@ reply_tokens (Refused class) = codes "err" ∷ text_of_lem class ∷ []
 reply_tokens Null = codes "null" ∷ []
 reply_tokens (Group members) = codes "group" ∷ list_text members ∷ []
 reply_tokens (Comm c r s) = codes "comm" ∷ labelled_text (codes "ctx=") c ∷ labelled_text (codes "rank=") r ∷ labelled_text (codes "size=") s ∷ []
+reply_tokens _ = []
 
 -- the same behind its arrow, and nothing where there is no reply
 abbrev pub reply_part : Option Reply → List (List ℕ)
@@ -90,6 +92,30 @@ entry_tokens e = decimal e.choice.rank ∷ (act_tokens e.choice.act ++ (said_par
 -- the line of an entry, without its line feed
 abbrev pub entry_text : Entry → List ℕ
 entry_text e = in_line (entry_tokens e)
+
+-- whether a step has a text
+abbrev pub act_has_text : Act → Bool
+act_has_text (Call thread op) = is_spelled op
+act_has_text (Answer thread) = true
+act_has_text (Deliver from) = false
+act_has_text (Offer k) = true
+act_has_text (Settle k) = true
+act_has_text (Leave c) = true
+act_has_text (Back c) = true
+
+-- whether a reply has a text
+abbrev pub reply_has_text : Option Reply → Bool
+reply_has_text None = true
+reply_has_text (Some Fine) = true
+reply_has_text (Some (Refused class)) = true
+reply_has_text (Some Null) = true
+reply_has_text (Some (Group members)) = true
+reply_has_text (Some (Comm c r s)) = true
+reply_has_text _ = false
+
+-- whether an entry has a text that tells all of it
+abbrev pub has_text : Entry → Bool
+has_text e = act_has_text e.choice.act && (reply_has_text e.reply && (is_none e.brief && is_none e.matched))
 
 -- a line for each entry
 abbrev pub journal_text : List Entry → List ℕ
@@ -111,10 +137,11 @@ pub record IsKey (k : Key) : Type 0 where
   pub members : AreRanks k.members
   pub shows_all : ShowsAll k.kind k
 
--- a step whose numbers and texts are in their ranges
+-- a step with a text, whose numbers and texts are in their ranges
 abbrev pub IsAct : Act → Type 0
 IsAct (Call thread op) = (thread < 2 ^ 8) × IsOp op
 IsAct (Answer thread) = thread < 2 ^ 8
+IsAct (Deliver from) = ⊥
 IsAct (Offer k) = IsKey k
 IsAct (Settle k) = IsKey k
 IsAct (Leave c) = c < 2 ^ 16
@@ -130,11 +157,15 @@ abbrev pub IsDropped : Option ℕ → Type 0
 IsDropped (Some n) = n < 2 ^ 64
 IsDropped None = Unit {0}
 
--- a reply whose numbers and members are in their ranges
+-- a reply with a text, whose numbers and members are in their ranges
 abbrev pub IsReply : Option Reply → Type 0
+IsReply None = Unit {0}
+IsReply (Some Fine) = Unit {0}
+IsReply (Some (Refused class)) = Unit {0}
+IsReply (Some Null) = Unit {0}
 IsReply (Some (Group members)) = AreRanks members
 IsReply (Some (Comm c r s)) = (c < 2 ^ 16) × (r < 2 ^ 16) × (s < 2 ^ 16)
-IsReply _ = Unit {0}
+IsReply _ = ⊥
 
 -- an offer owns the mask, or carries no context
 abbrev pub offer_may_say : Said → Bool
@@ -152,6 +183,7 @@ settle_may_say _ = true
 abbrev pub may_say : Act → Option Said → Bool
 may_say (Call thread op) said = is_none said
 may_say (Answer thread) said = is_none said
+may_say (Deliver from) said = is_none said
 may_say (Offer k) None = false
 may_say (Offer k) (Some s) = offer_may_say s
 may_say (Settle k) None = false
@@ -163,6 +195,7 @@ may_say (Back c) said = is_none said
 abbrev pub may_drop : Act → Option ℕ → Bool
 may_drop (Call thread op) dropped = is_none dropped
 may_drop (Answer thread) dropped = is_none dropped
+may_drop (Deliver from) dropped = is_none dropped
 may_drop (Offer k) dropped = is_none dropped
 may_drop (Settle k) dropped = is_none dropped
 may_drop (Leave c) dropped = is_none dropped
@@ -172,15 +205,18 @@ may_drop (Back c) dropped = is_some dropped
 abbrev pub may_reply : Act → Option Reply → Bool
 may_reply (Call thread op) reply = true
 may_reply (Answer thread) reply = is_some reply
+may_reply (Deliver from) reply = is_none reply
 may_reply (Offer k) reply = is_none reply
 may_reply (Settle k) reply = is_none reply
 may_reply (Leave c) reply = is_none reply
 may_reply (Back c) reply = is_none reply
 
--- an entry whose numbers, texts and lists are in their ranges, and whose parts belong together
+-- an entry with a text, whose numbers, texts and lists are in their ranges, and whose parts belong together
 pub record IsEntry (e : Entry) : Type 0 where
   pub rank : e.choice.rank < 2 ^ 16
   pub act : IsAct e.choice.act
+  pub brief : e.brief ≡ None
+  pub matched : e.matched ≡ None
   pub said : IsSaid e.said
   pub dropped : IsDropped e.dropped
   pub reply : IsReply e.reply

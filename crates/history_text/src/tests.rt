@@ -1,4 +1,7 @@
 //! Entries and their lines, as examples.
+ghost use Rattle.std.specs.Prelude.{◌≡◌, ◌&&◌, true, Some};
+ghost use Rattle.history_text.specs.Text.{has_text, act_has_text, reply_has_text};
+
 use crate::write_entry;
 use mpi_base::{
     Act, Choice, Entry, ErrClass, Key, Kind, Members, Name, Op, PsetName, Reply, Said, StringTag,
@@ -42,7 +45,9 @@ fn numbered(rt: &impl Abort, kind: Kind, parent: u16, number: u64, ranks: &[u16]
     }
 }
 
-fn is_written(rt: &impl Abort, entry: Entry, line: &[u8]) {
+fn is_written(rt: &impl Abort, entry: Entry, line: &[u8])
+    requires { has_text entry ≡ true }
+{
     let mut out = Line::new();
     write_entry(&entry, &mut out);
     assert_eq!(rt; out.as_slice(), line);
@@ -55,10 +60,14 @@ fn is_line(
     said: Option<Said>,
     reply: Option<Reply>,
     line: &[u8],
-) {
+)
+    requires { (act_has_text act && reply_has_text reply) ≡ true }
+{
     let entry = Entry {
         choice: Choice { rank, act },
+        brief: None,
         said,
+        matched: None,
         dropped: None,
         reply,
     };
@@ -177,7 +186,9 @@ fn settles_are_written(rt: HostRuntime) {
     }
 }
 
-fn is_answer(rt: &impl Abort, reply: Reply, line: &[u8]) {
+fn is_answer(rt: &impl Abort, reply: Reply, line: &[u8])
+    requires { reply_has_text (Some reply) ≡ true }
+{
     is_line(rt, 0, Act::Answer { thread: 0 }, None, Some(reply), line);
 }
 
@@ -204,25 +215,16 @@ fn a_duplicate_is_written(rt: HostRuntime) {
     };
     is_line(&rt, 0, act, None, None, b"0 call 0 dup c -> d");
     let key = numbered(&rt, Kind::Dup, 1, 0, &[0]);
-    for (act, said, line) in [
-        (
-            Act::Settle { key: key.copy() },
-            Said::Ready,
-            b"0 settle dup 1 0 [0] # ready".as_slice(),
-        ),
-        (
-            Act::Offer { key: key.copy() },
-            Said::Own,
-            b"0 offer dup 1 0 [0] # own".as_slice(),
-        ),
-        (
-            Act::Settle { key: key.copy() },
-            Said::Picked(2),
-            b"0 settle dup 1 0 [0] # pick ctx=2".as_slice(),
-        ),
+    for (said, line) in [
+        (Said::Ready, b"0 settle dup 1 0 [0] # ready".as_slice()),
+        (Said::Picked(2), b"0 settle dup 1 0 [0] # pick ctx=2"),
     ] {
+        let act = Act::Settle { key: key.copy() };
         is_line(&rt, 0, act, Some(said), None, line);
     }
+    let offer = Act::Offer { key };
+    let line = b"0 offer dup 1 0 [0] # own";
+    is_line(&rt, 0, offer, Some(Said::Own), None, line);
     let comm = Reply::Comm {
         ctx: 2,
         rank: 0,
@@ -237,7 +239,9 @@ fn is_back(rt: &impl Abort, rank: u16, ctx: u16, count: u64, line: &[u8]) {
             rank,
             act: Act::Back { ctx },
         },
+        brief: None,
         said: None,
+        matched: None,
         dropped: Some(count),
         reply: None,
     };

@@ -1,7 +1,7 @@
 //! Entries, written.
-ghost use Rattle.std.specs.Prelude.{◌≡◌, ◌≤◌, ◌+◌, false, length};
+ghost use Rattle.std.specs.Prelude.{◌≡◌, ◌≤◌, ◌+◌, true, false, Some, length};
 ghost use Rattle.script_text.specs.Spelling.{has_line_feed};
-ghost use Rattle.history_text.specs.Text.{IsEntry, act_tokens, said_tokens, said_part, dropped_part, reply_tokens, reply_part, entry_text};
+ghost use Rattle.history_text.specs.Text.{IsEntry, act_has_text, reply_has_text, has_text, act_tokens, said_tokens, said_part, dropped_part, reply_tokens, reply_part, entry_text};
 ghost use Rattle.history_text.specs.Parts.{Adds};
 ghost use Rattle.mpi_base.specs.declared.entries.Entry.{Entry as AnyEntry};
 
@@ -11,6 +11,7 @@ use script_text::{Line, put, write_op};
 
 #[tactic(auto, using(crate::proofs::Joined::op_spaced))]
 fn put_act(out: &mut Line, act: &Act)
+    requires text { act_has_text act.now ≡ true }
     requires room { length out.old.items + 1051 ≤ 2048 }
     ensures { Adds 1051 (act_tokens act.now) out.old.items out.new.items }
 {
@@ -25,6 +26,7 @@ fn put_act(out: &mut Line, act: &Act)
             put(out, b" answer ");
             put_number(out, u64::from(*thread));
         }
+        Act::Deliver { .. } => unreachable!(),
         Act::Offer { key } => {
             put(out, b" offer");
             put_key(out, key);
@@ -92,6 +94,7 @@ fn put_dropped_part(out: &mut Line, dropped: Option<u64>)
 }
 
 fn put_reply(out: &mut Line, reply: &Reply)
+    requires text { reply_has_text (Some reply.now) ≡ true }
     requires room { length out.old.items + 345 ≤ 2048 }
     ensures { Adds 345 (reply_tokens reply.now) out.old.items out.new.items }
 {
@@ -112,10 +115,12 @@ fn put_reply(out: &mut Line, reply: &Reply)
             put_labelled(out, b" rank=", *rank);
             put_labelled(out, b" size=", *size);
         }
+        _ => unreachable!(),
     }
 }
 
 fn put_reply_part(out: &mut Line, reply: &Option<Reply>)
+    requires text { reply_has_text reply.now ≡ true }
     requires room { length out.old.items + 348 ≤ 2048 }
     ensures { Adds 348 (reply_part reply.now) out.old.items out.new.items }
 {
@@ -128,8 +133,11 @@ fn put_reply_part(out: &mut Line, reply: &Option<Reply>)
     }
 }
 
-/// Makes `out` the line of an entry, without its line feed.
+/// Makes `out` the line of an entry, without its line feed. The entry has a text so far: what it calls
+/// is spelled, it is no delivery, matches nothing, and is replied `Fine`, `Refused`, `Null`, `Group`,
+/// `Comm` or nothing.
 pub fn write_entry(entry: &Entry, out: &mut Line)
+    requires text { has_text entry.now ≡ true }
     ensures text { out.new.items ≡ entry_text entry.now }
     ensures short { length out.new.items ≤ 1481 }
 {

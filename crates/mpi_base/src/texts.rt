@@ -1,13 +1,13 @@
-//! Names, names of process sets and string tags.
+//! Names, names of process sets, string tags and the bytes of messages.
 ghost use Rattle.std.specs.Prelude.{◌≡◌, ◌↔◌, ◌||◌, IsSome, IfSome};
 ghost use Rattle.std.specs.List.{list_all};
-ghost use Rattle.mpi_base.specs.Texts.{is_letter, is_digit, begins_with_letter_lem, is_name_byte, is_pset_byte, is_tag_byte, IsName, IsPsetName, IsTag};
+ghost use Rattle.mpi_base.specs.Texts.{is_letter, is_digit, begins_with_letter_lem, is_name_byte, is_pset_byte, is_tag_byte, IsName, IsPsetName, IsTag, IsPayload};
 
 use arrayvec::ArrayVec;
 use std::marker::Model;
 
 /// A name of a script: a letter, then letters, digits or `_`, 1 to 16 bytes.
-#[derive(Drop, PartialEq, Eq, PartialOrd, Ord)]
+#[derive(Drop, PartialEq, Eq, Hash, PartialOrd, Ord)]
 pub struct Name {
     text: ArrayVec<u8, 16>,
 }
@@ -26,7 +26,7 @@ impl Model for Name {
 }
 
 /// A name of a process set: letters, digits, `:`, `/`, `_`, `.` or `-`, 1 to 32 bytes.
-#[derive(Drop, PartialEq, Eq, PartialOrd, Ord)]
+#[derive(Drop, PartialEq, Eq, Hash, PartialOrd, Ord)]
 pub struct PsetName {
     text: ArrayVec<u8, 32>,
 }
@@ -61,6 +61,25 @@ impl Model for StringTag {
     ghost invariant = { λ s. IsTag s.text.items };
 
     ghost inverse = { λ xs. record { text = record { items = xs } } };
+}
+
+/// The bytes of a message, at most 256.
+#[derive(Drop, PartialEq, Eq)]
+pub struct Payload {
+    bytes: ArrayVec<u8, 256>,
+}
+
+impl Model for Payload {
+    ghost use Rattle.std.specs.Prelude.{List, ℕ};
+    ghost use Rattle.mpi_base.specs.Texts.{IsPayload};
+
+    ghost Value = { List ℕ };
+
+    ghost view = { λ s. s.bytes.items };
+
+    ghost invariant = { λ s. IsPayload s.bytes.items };
+
+    ghost inverse = { λ xs. record { bytes = record { items = xs } } };
 }
 
 fn letter(byte: u8) -> bool
@@ -219,5 +238,36 @@ impl StringTag {
         let mut text = ArrayVec::new();
         let _ = text.try_extend_from_slice(self.text.as_slice());
         StringTag { text }
+    }
+}
+
+impl Payload {
+    /// The payload with these bytes; None exactly where there are more than 256.
+    pub fn new(bytes: &[u8]) -> Option<Payload>
+        ensures when { IsSome result ↔ IsPayload bytes.now }
+        ensures value { IfSome result (λ p. p ≡ bytes.now) }
+    {
+        let mut items = ArrayVec::new();
+        match items.try_extend_from_slice(bytes) {
+            Ok(()) => Some(Payload { bytes: items }),
+            Err(_) => None,
+        }
+    }
+
+    /// The bytes, 0 to 256 of them.
+    pub fn bytes(&self) -> &[u8]
+        ensures value { result.now ≡ self.now }
+        ensures form { IsPayload self.now }
+    {
+        self.bytes.as_slice()
+    }
+
+    /// The same payload once more.
+    pub fn copy(&self) -> Payload
+        ensures same { result ≡ self.now }
+    {
+        let mut bytes = ArrayVec::new();
+        let _ = bytes.try_extend_from_slice(self.bytes.as_slice());
+        Payload { bytes }
     }
 }

@@ -7,7 +7,7 @@ use Rattle.mpi_base.specs.declared.keys.Key.{Key}
 use Rattle.mpi_base.specs.declared.keys.Kind.TheVariants as kind
 use Rattle.mpi_base.specs.declared.ops.Op.{Op}
 use Rattle.mpi_base.specs.declared.ops.Op.TheVariants as op
-use Rattle.mpi_base.specs.declared.ops.Reply.TheVariants as reply
+use Rattle.mpi_base.specs.declared.replies.Reply.TheVariants as reply
 use Rattle.mpi_base.specs.declared.errors.ErrClass.TheVariants as class
 use Rattle.mpi_law.specs.declared.rows.Bound.TheVariants.{Session, Group, Comm}
 use Rattle.mpi_law.specs.declared.setting.Setting.{Setting}
@@ -52,15 +52,15 @@ seven = six ++ Replies 0 0 (reply.Comm 1 0 1) ∷ []
 seven_are_a_run : IsRegistryRun one start seven
 unfolding registry_next effect_of
 seven_are_a_run = (
-  record { rank = lit< tt; thread = lit< tt; idle = refl; reply = refl },
+  record { rank = lit< tt; thread = lit< tt; built = refl; idle = refl; reply = refl },
   (
     refl,
     (
-      record { rank = lit< tt; thread = lit< tt; idle = refl; reply = refl },
+      record { rank = lit< tt; thread = lit< tt; built = refl; idle = refl; reply = refl },
       (
         refl,
         (
-          record { rank = lit< tt; thread = lit< tt; idle = refl; reply = refl },
+          record { rank = lit< tt; thread = lit< tt; built = refl; idle = refl; reply = refl },
           (
             (record { there = lit< tt; members = refl; member = refl; all = refl }, record { above = lit≤ tt; below = lit≤ tt; unused = refl }),
             (
@@ -121,7 +121,7 @@ after_seven = registry_after one start seven
 three_go_on : IsRegistryRun one after_seven three
 unfolding registry_next effect_of
 three_go_on = (
-  record { rank = lit< tt; thread = lit< tt; idle = refl; reply = refl },
+  record { rank = lit< tt; thread = lit< tt; built = refl; idle = refl; reply = refl },
   (
     (record { there = lit< tt; members = refl; member = refl; all = refl }, record { above = lit≤ tt; below = lit≤ tt; unused = refl }),
     (
@@ -165,7 +165,7 @@ freed = Calls 0 0 free false ∷ Backs 0 1 0 ∷ Replies 0 0 reply.Fine ∷ []
 freed_go_on : IsRegistryRun one after_ten freed
 unfolding registry_next effect_of
 freed_go_on = (
-  record { rank = lit< tt; thread = lit< tt; idle = refl; reply = refl },
+  record { rank = lit< tt; thread = lit< tt; built = refl; idle = refl; reply = refl },
   (
     record { place = 0; here = refl; freed = refl; settled = refl; none = refl },
     (

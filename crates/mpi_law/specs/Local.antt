@@ -6,8 +6,8 @@ use Rattle.std.specs.List.{range_with_len}
 use Rattle.mpi_base.specs.MemberLists.{has_rank}
 use Rattle.mpi_base.specs.declared.ops.Op.{Op}
 use Rattle.mpi_base.specs.declared.ops.Op.TheVariants as op
-use Rattle.mpi_base.specs.declared.ops.Reply.{Reply}
-use Rattle.mpi_base.specs.declared.ops.Reply.TheVariants as reply
+use Rattle.mpi_base.specs.declared.replies.Reply.{Reply}
+use Rattle.mpi_base.specs.declared.replies.Reply.TheVariants as reply
 use Rattle.mpi_base.specs.declared.errors.ErrClass.{ErrClass}
 use Rattle.mpi_base.specs.declared.errors.ErrClass.TheVariants as class
 use Rattle.mpi_law.specs.declared.rows.Bound.{Bound}
@@ -152,13 +152,14 @@ abbrev pub refusal : Local → Result Effect ErrClass → Effect
 refusal l (Ok e) = e
 refusal l (Err c) = Says l (reply.Refused c)
 
--- what an operation of a rank does
+-- what an operation of a rank does; those that are not built are never called
 unfoldable pub effect_of : Setting → ℕ → (List ℕ → List ℕ → Bool) → Local → Op → Effect
 effect_of s rank busy l (op.Session target) = refusal l (call_session l target)
 effect_of s rank busy l (op.Pset session set target) = refusal l (call_pset s rank l session set target)
 effect_of s rank busy l (op.Create group tag target) = refusal l (call_create rank busy l group tag target)
 effect_of s rank busy l (op.Dup comm target) = refusal l (call_dup l comm target)
 effect_of s rank busy l (op.Free comm) = refusal l (call_free l comm)
+effect_of s rank busy l _ = Says l reply.Fine
 
 -- whether the reply comes at once
 abbrev pub is_said : Effect → Bool

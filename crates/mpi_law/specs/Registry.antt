@@ -8,12 +8,13 @@ use Rattle.mpi_base.specs.declared.keys.Key.{Key}
 use Rattle.mpi_base.specs.declared.keys.Kind.{Kind}
 use Rattle.mpi_base.specs.declared.keys.Kind.TheVariants as kind
 use Rattle.mpi_base.specs.declared.ops.Op.{Op}
-use Rattle.mpi_base.specs.declared.ops.Reply.{Reply}
-use Rattle.mpi_base.specs.declared.ops.Reply.TheVariants as reply
+use Rattle.mpi_base.specs.declared.replies.Reply.{Reply}
+use Rattle.mpi_base.specs.declared.replies.Reply.TheVariants as reply
 use Rattle.mpi_base.specs.declared.errors.ErrClass.TheVariants as class
 use Rattle.mpi_law.specs.declared.rows.Bound.TheVariants.{Comm}
 use Rattle.mpi_law.specs.declared.setting.Setting.{Setting}
 use Rattle.mpi_law.specs.declared.setting.TheConstants.{THREADS}
+use Rattle.mpi_law.specs.ScriptLists.{is_built}
 use Rattle.mpi_law.specs.Local.{Local, Effect, Says, Joins, Frees, Origin, Grouped, Duplicated, effect_of, is_said, rebind, unbind}
 
 -- a communicator, named by its place in the registry's list, with the members that have freed it and those that have
@@ -362,9 +363,11 @@ pub record MayBack (g : Registry) (r c dropped : ℕ) : Type 0 where
   pub settled : list_all (λ m. not (has_open g place m)) (get_or g.comms place blank_comm).members ≡ true
   pub none : dropped ≡ 0
 
+-- a thread that waits for nothing calls an operation that is built
 pub record MayCall (s : Setting) (g : Registry) (r t : ℕ) (op : Op) (now : Bool) : Type 0 where
   pub rank : r < s.ranks
   pub thread : t < THREADS
+  pub built : is_built op ≡ true
   pub idle : is_idle_wait (thread_of g r t).wait ≡ true
   pub reply : now ≡ is_said (effect_at s g r op)
 

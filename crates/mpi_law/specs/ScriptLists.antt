@@ -1,6 +1,6 @@
 -- Scripts, this project's own: a list of operations for each rank and thread.
 use Rattle.mpi_base.specs.declared.members.TheConstants.{MOST_RANKS}
-use Rattle.std.specs.Prelude.{◌≡◌, ℕ, ◌+◌, ◌*◌, ◌^◌, ◌<◌, ◌≤◌, Bool, true, List, [], get_or, slice_get, Option, sum_by, length, bytes_eq, codes, set, ◌++◌, ◌∷◌}
+use Rattle.std.specs.Prelude.{◌≡◌, ℕ, ◌+◌, ◌*◌, ◌^◌, ◌<◌, ◌≤◌, Bool, true, false, List, [], get_or, slice_get, Option, sum_by, length, bytes_eq, codes, set, ◌++◌, ◌∷◌}
 use Rattle.mpi_base.specs.declared.ops.Op.{Op}
 use Rattle.mpi_base.specs.declared.ops.Op.TheVariants.{Session, Pset, Create, Dup, Free}
 
@@ -36,6 +36,7 @@ is_built (Pset session set target) = bytes_eq set self_set
 is_built (Create group tag target) = true
 is_built (Dup comm target) = true
 is_built (Free comm) = true
+is_built _ = false
 
 -- eight scripts for each rank, and their operations counted
 pub record IsScripts (ranks total : ℕ) (lists : List (List Op)) : Type 0 where

@@ -27,14 +27,15 @@ impl Model for Scripts {
     ghost invariant = { λ s. IsScripts s.ranks s.total (map (λ list. list.items) s.lists.items) };
 }
 
-/// Whether an operation may be called yet: all but a `pset` of another process set than the one that
-/// holds the caller alone (MPI 4.0, 11.3.2).
+/// Whether an operation may be called yet: `session`, `pset` of the process set that holds the caller
+/// alone (MPI 4.0, 11.3.2), `create`, `dup` and `free`.
 pub fn is_built(op: &Op) -> bool
     ensures { result ≡ is_built op.now }
 {
     match op {
         Op::Pset(_, set, _) => set.bytes() == b"mpi://SELF".as_slice(),
         Op::Session(_) | Op::Create(..) | Op::Dup(..) | Op::Free(_) => true,
+        _ => false,
     }
 }
 

@@ -6,12 +6,12 @@ use Rattle.mpi_base.specs.declared.keys.Kind.TheVariants as kind
 use Rattle.mpi_base.specs.declared.errors.ErrClass.TheVariants as class
 use Rattle.mpi_base.specs.Keys.{same_key, key_cmp, key_before}
 use Rattle.mpi_base.specs.declared.ops.Op.TheVariants.{Session, Pset, Create, Dup, Free}
-use Rattle.mpi_base.specs.declared.ops.Reply.TheVariants.{Fine, Refused, Group, Comm}
+use Rattle.mpi_base.specs.declared.replies.Reply.TheVariants.{Fine, Refused, Group, Comm}
 use Rattle.mpi_base.specs.declared.entries.Act.{Act}
 use Rattle.mpi_base.specs.declared.entries.Act.TheVariants.{Call, Answer, Offer, Settle, Leave, Back}
 use Rattle.mpi_base.specs.declared.entries.Said.TheVariants.{Own, Ready, Picked}
 use Rattle.mpi_base.specs.declared.entries.Entry.{Entry}
-use Rattle.mpi_base.specs.declared.ops.Reply.{Reply}
+use Rattle.mpi_base.specs.declared.replies.Reply.{Reply}
 use Rattle.mpi_base.specs.declared.entries.Said.{Said}
 use Rattle.mpi_law.specs.Local.{effect_of}
 use Rattle.mpi_law.specs.Registry.{Calls, Picks, Backs, Replies}
@@ -48,7 +48,7 @@ acts =
     ∷ []
 
 abbrev line : Act → Option Said → Option Reply → Entry
-line a s r = record { choice = record { rank = 0; act = a }; said = s; dropped = None; reply = r }
+line a s r = record { choice = record { rank = 0; act = a }; brief = None; said = s; matched = None; dropped = None; reply = r }
 
 abbrev seven : List Entry
 seven =
@@ -138,7 +138,7 @@ abbrev nine : List Entry
 nine =
     line (Call 0 (Free (codes "c"))) None None
     ∷ line (Leave 1) None None
-    ∷ record { choice = record { rank = 0; act = Back 1 }; said = None; dropped = Some 0; reply = None }
+    ∷ record { choice = record { rank = 0; act = Back 1 }; brief = None; said = None; matched = None; dropped = Some 0; reply = None }
     ∷ line (Answer 0) None (Some Fine)
     ∷ line (Call 0 (Create (codes "g") (codes "b") (codes "e"))) None None
     ∷ line (Settle again_key) (Some Ready) None

@@ -4,7 +4,7 @@ use Rattle.std.specs.List.{list_any}
 use Rattle.mpi_base.specs.declared.keys.Key.{Key}
 use Rattle.mpi_base.specs.Keys.{same_key, key_before}
 use Rattle.mpi_base.specs.declared.entries.Act.{Act}
-use Rattle.mpi_base.specs.declared.entries.Act.TheVariants.{Call, Answer, Offer as MakeOffer, Settle, Leave, Back}
+use Rattle.mpi_base.specs.declared.entries.Act.TheVariants.{Call, Answer, Deliver, Offer as MakeOffer, Settle, Leave, Back}
 use Rattle.mpi_base.specs.declared.entries.Choice.{Choice}
 use Rattle.mpi_base.specs.declared.entries.Entry.{Entry}
 use Rattle.mpi_law.specs.declared.setting.TheConstants.{THREADS}
@@ -25,8 +25,9 @@ is_offered (Some (Done o)) = false
 abbrev pub offered_anywhere : List Rank → Key → Bool
 offered_anywhere w key = list_any (λ x. is_offered (stage_of x.opened key)) w
 
--- answers first, then settles, offers of a key that some rank has offered, other offers, leaves, give-backs, and calls
+-- deliveries first, then answers, settles, offers of a key that some rank has offered, other offers, leaves, give-backs, and calls
 abbrev pub kind_of : List Rank → Act → ℕ
+kind_of w (Deliver from) = 1
 kind_of w (Answer t) = 2
 kind_of w (Settle key) = 3
 kind_of w (MakeOffer key) = if offered_anywhere w key then 4 else 5
@@ -37,8 +38,9 @@ kind_of w (Call t op) = 8
 abbrev pub is_pair_le : ℕ → ℕ → ℕ → ℕ → Bool
 is_pair_le r t q u = nat_lt r q || ((r == q) && nat_le t u)
 
--- within a kind: by rank and thread, by rank and key, by key and rank, or by rank and context
+-- within a kind: by sender and receiver, by rank and thread, by rank and key, by key and rank, or by rank and context
 abbrev pub is_within : ℕ → Act → ℕ → Act → Bool
+is_within r (Deliver from) q (Deliver source) = is_pair_le from r source q
 is_within r (Answer t) q (Answer u) = is_pair_le r t q u
 is_within r (Settle k) q (Settle l) = nat_lt r q || ((r == q) && not (key_before l k))
 is_within r (MakeOffer k) q (MakeOffer l) = key_before k l || (same_key k l && nat_le r q)
@@ -57,6 +59,7 @@ is_no_later w c d =
 abbrev pub IsOfScript : AllScripts → Rank → ℕ → Act → Type 0
 IsOfScript scripts x r (Call t op) = next_op scripts r t (thread_at x t).calls ≡ Some op
 IsOfScript scripts x r (Answer t) = Unit {0}
+IsOfScript scripts x r (Deliver from) = Unit {0}
 IsOfScript scripts x r (MakeOffer key) = Unit {0}
 IsOfScript scripts x r (Settle key) = Unit {0}
 IsOfScript scripts x r (Leave c) = Unit {0}
@@ -80,6 +83,7 @@ IsDrained scripts w (e ∷ es) = IsFirstChoice w scripts e.choice × IsDrained s
 abbrev pub is_call : Act → Bool
 is_call (Call t op) = true
 is_call (Answer t) = false
+is_call (Deliver from) = false
 is_call (MakeOffer key) = false
 is_call (Settle key) = false
 is_call (Leave c) = false

@@ -2,10 +2,10 @@
 use Rattle.std.specs.Prelude.{◌≡◌, ℕ, ◌==◌, ◌&&◌, true, if◌then◌else◌, List, [], ◌∷◌, Option, Some, None, is_some}
 use Rattle.std.specs.List.{flat_map}
 use Rattle.mpi_base.specs.declared.ops.Op.{Op}
-use Rattle.mpi_base.specs.declared.ops.Reply.{Reply}
+use Rattle.mpi_base.specs.declared.replies.Reply.{Reply}
 use Rattle.mpi_base.specs.declared.keys.Key.{Key}
 use Rattle.mpi_base.specs.declared.entries.Act.{Act}
-use Rattle.mpi_base.specs.declared.entries.Act.TheVariants.{Call, Answer, Offer as MakeOffer, Settle, Leave, Back}
+use Rattle.mpi_base.specs.declared.entries.Act.TheVariants.{Call, Answer, Deliver, Offer as MakeOffer, Settle, Leave, Back}
 use Rattle.mpi_base.specs.declared.entries.Said.{Said}
 use Rattle.mpi_base.specs.declared.entries.Said.TheVariants as said
 use Rattle.mpi_base.specs.declared.entries.Entry.{Entry}
@@ -55,6 +55,7 @@ back_events r c (Some dropped) = Backs r c dropped ∷ []
 abbrev pub act_events : ℕ → Act → Option Said → Option ℕ → Option Reply → List Event
 act_events r (Call t op) s dropped reply = Calls r t op (is_some reply) ∷ reply_events r t reply
 act_events r (Answer t) s dropped reply = reply_events r t reply
+act_events r (Deliver from) s dropped reply = []
 act_events r (MakeOffer key) s dropped reply = []
 act_events r (Settle key) s dropped reply = pick_events r key s
 act_events r (Leave c) s dropped reply = []
@@ -71,6 +72,7 @@ events_of journal = flat_map entry_events journal
 abbrev pub call_of : ℕ → ℕ → ℕ → Act → List Op
 call_of r t rank (Call u op) = if (rank == r) && (u == t) then op ∷ [] else []
 call_of r t rank (Answer u) = []
+call_of r t rank (Deliver from) = []
 call_of r t rank (MakeOffer key) = []
 call_of r t rank (Settle key) = []
 call_of r t rank (Leave c) = []

@@ -3,11 +3,11 @@ use Rattle.std.specs.Prelude.{◌≡◌, ℕ, ◌+◌, ◌&&◌, Bool, true, fal
 use Rattle.std.specs.List.{list_all}
 use Rattle.mpi_base.specs.declared.keys.Key.{Key}
 use Rattle.mpi_base.specs.declared.keys.Kind.TheVariants.{From, Dup}
-use Rattle.mpi_base.specs.declared.ops.Reply.{Reply}
-use Rattle.mpi_base.specs.declared.ops.Reply.TheVariants as reply
+use Rattle.mpi_base.specs.declared.replies.Reply.{Reply}
+use Rattle.mpi_base.specs.declared.replies.Reply.TheVariants as reply
 use Rattle.mpi_base.specs.declared.errors.ErrClass.TheVariants as class
 use Rattle.mpi_base.specs.declared.entries.Act.{Act}
-use Rattle.mpi_base.specs.declared.entries.Act.TheVariants.{Call, Answer, Offer as MakeOffer, Settle, Leave, Back}
+use Rattle.mpi_base.specs.declared.entries.Act.TheVariants.{Call, Answer, Deliver, Offer as MakeOffer, Settle, Leave, Back}
 use Rattle.mpi_base.specs.declared.entries.Said.{Said}
 use Rattle.mpi_base.specs.declared.entries.Said.TheVariants as said
 use Rattle.mpi_base.specs.declared.entries.Entry.{Entry}
@@ -275,10 +275,11 @@ is_answerable x (Freeing c) = false
 is_answerable x Returned = true
 is_answerable x (Creation key target session) = is_done (stage_of x.opened key)
 
--- when an act may be made
+-- when an act may be made; no rank can send another anything yet
 unfoldable pub is_enabled : Rank → Act → Bool
 is_enabled x (Call t op) = nat_lt t THREADS && (is_idle (thread_at x t).waits && is_built op)
 is_enabled x (Answer t) = nat_lt t THREADS && is_answerable x (thread_at x t).waits
+is_enabled x (Deliver from) = false
 is_enabled x (MakeOffer key) = is_due (stage_of x.opened key)
 is_enabled x (Settle key) = is_first x.rank key.members && is_ready x.gathered key
 is_enabled x (Leave c) = may_leave x c (row_at x.comms c)
@@ -287,6 +288,7 @@ is_enabled x (Back c) = may_give_back x (row_at x.comms c)
 unfoldable pub step : Rank → Act → Move
 step x (Call t op) = called x t (effect_of x.setting x.rank (is_open_here x) x.local op)
 step x (Answer t) = answered x t (thread_at x t).waits
+step x (Deliver from) = stays x
 step x (MakeOffer key) = if_waiting x key (stage_of x.opened key)
 step x (Leave c) = left_behind x c
 step x (Back c) = given_back x c
@@ -294,7 +296,8 @@ step x (Settle key) = settled x key (round_of x.rounds key) (verdict_of x.settin
 
 -- the entry of a step
 abbrev pub entry_of : Rank → Act → Move → Entry
-entry_of x act m = record { choice = record { rank = x.rank; act = act }; said = m.said; dropped = m.dropped; reply = m.reply }
+entry_of x act m =
+    record { choice = record { rank = x.rank; act = act }; brief = None; said = m.said; matched = None; dropped = m.dropped; reply = m.reply }
 
 -- old goes on to new by an act, with this entry
 pub record Steps (old : Rank) (act : Act) (new : Rank) (line : Entry) : Type 0 where

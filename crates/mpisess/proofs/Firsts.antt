@@ -10,7 +10,7 @@ use Rattle.mpi_base.specs.Keys.{same_key, key_before}
 use Rattle.mpi_base.proofs.KeyFacts.{same_key-refl, key_before_total}
 use Rattle.mpi_base.specs.declared.ops.Op.{Op}
 use Rattle.mpi_base.specs.declared.entries.Act.{Act}
-use Rattle.mpi_base.specs.declared.entries.Act.TheVariants.{Call, Answer, Offer as MakeOffer, Settle, Leave, Back}
+use Rattle.mpi_base.specs.declared.entries.Act.TheVariants.{Call, Answer, Deliver, Offer as MakeOffer, Settle, Leave, Back}
 use Rattle.mpi_law.specs.ScriptLists.{AllScripts, script_of, next_op, is_built}
 use Rattle.mpi_protocol.specs.declared.rows.Stage.{Stage}
 use Rattle.mpi_protocol.specs.declared.rows.Stage.TheVariants.{Called, Waiting, Offered, Done}
@@ -39,6 +39,10 @@ pub record Still (x : Rank) : Type 0 where
 -- there is no other rank
 far : (x : Rank) (r : ℕ) (a : Act) → may_happen (x ∷ []) (record { rank = suc r; act = a }) ≡ false
 far x r a = let l : nat_lt (suc r) 1 ≡ false = grind (arith, nat_tests) in rw l refl
+
+no_delivery : (x : Rank) (from : ℕ) → is_enabled x (Deliver from) ≡ true → ⊥
+unfolding is_enabled
+no_delivery x from e = absurd (cc (e))
 
 no_answer : (x : Rank) (t : ℕ) → NoneNext x kind.Answer None → is_enabled x (Answer t) ≡ true → ⊥
 no_answer x t none e = true≢false (none (Answer t) refl e)
@@ -87,22 +91,58 @@ offer_before x k n l = cases (is_offered (stage_of x.opened k)) where
   cases true = grind (arith, nat_tests, l)
   cases false = grind (arith, nat_tests, l)
 
--- of two contexts, one that is not above the other comes first or is the same
-context_no_later : (c d : ℕ) → nat_lt d c ≡ false → is_pair_le 0 c 0 d ≡ true
-context_no_later c d e = grind (arith, nat_tests, e)
+-- answers and settles are earlier kinds
+before_offer : (x : Rank) (k : Key) (n : ℕ) → n < 4 → (nat_lt n (if is_offered (stage_of x.opened k) || false then 4 else 5) || ((n == (if is_offered (stage_of x.opened k) || false then 4 else 5)) && true)) ≡ true
+before_offer x k n l = cases (is_offered (stage_of x.opened k)) where
+  cases : (b : Bool) → (nat_lt n (if b || false then 4 else 5) || ((n == (if b || false then 4 else 5)) && true)) ≡ true
+  cases true = grind (arith, nat_tests, l)
+  cases false = grind (arith, nat_tests, l)
+
+-- of two threads or contexts, one that is not above the other comes first or is the same
+number_no_later : (c d : ℕ) → nat_lt d c ≡ false → is_pair_le 0 c 0 d ≡ true
+number_no_later c d e = grind (arith, nat_tests, e)
 
 not_before : (b : Bool) → (b ≡ true → ⊥) → b ≡ false
 not_before true n = absurd (n refl)
 not_before false n = refl
 
+-- the first answer is the first choice
+pub answer_first : (x : Rank) (scripts : AllScripts) (act : Act) → IsNext x kind.Answer None act → IsFirstChoice (x ∷ []) scripts (record { rank = 0; act = act })
+answer_first x scripts (Answer t) n = record {
+  may = record { enabled = n.enabled; scripted = tt };
+  least = λ d may. later d.rank d.act may.enabled;
+} where
+  later : (r : ℕ) (a : Act) → may_happen (x ∷ []) (record { rank = r; act = a }) ≡ true → is_no_later (x ∷ []) (record { rank = 0; act = Answer t }) (record { rank = r; act = a }) ≡ true
+  later (suc r) a e = absurd (true≢false (sym e ∙ far x r a))
+  later zero (Call u op) e = refl
+  later zero (Answer u) e = number_no_later t u (n.least (Answer u) refl e refl)
+  later zero (Deliver from) e = absurd (no_delivery x from e)
+  later zero (MakeOffer l) e = before_offer x l 2 (omega arith)
+  later zero (Settle l) e = refl
+  later zero (Leave c) e = refl
+  later zero (Back c) e = refl
+answer_first x scripts _ n = absurd (true≢false (sym n.kind))
+
+-- the least settle is, where nothing can be answered
+pub settle_first : (x : Rank) (scripts : AllScripts) (act : Act) → IsNext x kind.Settle None act → NoneNext x kind.Answer None → IsFirstChoice (x ∷ []) scripts (record { rank = 0; act = act })
+settle_first x scripts (Settle key) n answers = record {
+  may = record { enabled = n.enabled; scripted = tt };
+  least = λ d may. later d.rank d.act may.enabled;
+} where
+  later : (r : ℕ) (a : Act) → may_happen (x ∷ []) (record { rank = r; act = a }) ≡ true → is_no_later (x ∷ []) (record { rank = 0; act = Settle key }) (record { rank = r; act = a }) ≡ true
+  later (suc r) a e = absurd (true≢false (sym e ∙ far x r a))
+  later zero (Call u op) e = refl
+  later zero (Answer u) e = absurd (no_answer x u answers e)
+  later zero (Deliver from) e = absurd (no_delivery x from e)
+  later zero (MakeOffer l) e = before_offer x l 3 (omega arith)
+  later zero (Settle l) e = rw (n.least (Settle l) refl e refl) refl
+  later zero (Leave c) e = refl
+  later zero (Back c) e = refl
+settle_first x scripts _ n answers = absurd (true≢false (sym n.kind))
+
 -- the least offer is the first choice where nothing can be answered or settled
 pub offer_first : (x : Rank) (scripts : AllScripts) (act : Act) → IsNext x kind.Offer None act → NoneNext x kind.Answer None → NoneNext x kind.Settle None
     → IsFirstChoice (x ∷ []) scripts (record { rank = 0; act = act })
-offer_first x scripts (Call t op) n answers settles = absurd (true≢false (sym n.kind))
-offer_first x scripts (Answer t) n answers settles = absurd (true≢false (sym n.kind))
-offer_first x scripts (Settle key) n answers settles = absurd (true≢false (sym n.kind))
-offer_first x scripts (Leave c) n answers settles = absurd (true≢false (sym n.kind))
-offer_first x scripts (Back c) n answers settles = absurd (true≢false (sym n.kind))
 offer_first x scripts (MakeOffer key) n answers settles = record {
   may = record { enabled = n.enabled; scripted = tt };
   least = λ d may. later d.rank d.act may.enabled;
@@ -112,17 +152,14 @@ offer_first x scripts (MakeOffer key) n answers settles = record {
   later zero (Call t op) e = offer_before x key 8 (omega arith)
   later zero (Leave d) e = offer_before x key 6 (omega arith)
   later zero (Back d) e = offer_before x key 7 (omega arith)
+  later zero (Deliver from) e = absurd (no_delivery x from e)
   later zero (Answer t) e = absurd (no_answer x t answers e)
   later zero (Settle l) e = absurd (no_settle x l settles e)
   later zero (MakeOffer l) e = offer_no_later x key l n.enabled e (n.least (MakeOffer l) refl e refl)
+offer_first x scripts _ n answers settles = absurd (true≢false (sym n.kind))
 
 -- the least leave is the first choice where nothing of an agreement can be done
 pub leave_first : (x : Rank) (scripts : AllScripts) (act : Act) → IsNext x kind.Leave None act → NoneAgree x → IsFirstChoice (x ∷ []) scripts (record { rank = 0; act = act })
-leave_first x scripts (Call t op) n none = absurd (true≢false (sym n.kind))
-leave_first x scripts (Answer t) n none = absurd (true≢false (sym n.kind))
-leave_first x scripts (Settle key) n none = absurd (true≢false (sym n.kind))
-leave_first x scripts (MakeOffer key) n none = absurd (true≢false (sym n.kind))
-leave_first x scripts (Back c) n none = absurd (true≢false (sym n.kind))
 leave_first x scripts (Leave c) n none = record {
   may = record { enabled = n.enabled; scripted = tt };
   least = λ d may. later d.rank d.act may.enabled;
@@ -130,19 +167,16 @@ leave_first x scripts (Leave c) n none = record {
   later : (r : ℕ) (a : Act) → may_happen (x ∷ []) (record { rank = r; act = a }) ≡ true → is_no_later (x ∷ []) (record { rank = 0; act = Leave c }) (record { rank = r; act = a }) ≡ true
   later (suc r) a e = absurd (true≢false (sym e ∙ far x r a))
   later zero (Call t op) e = refl
+  later zero (Deliver from) e = absurd (no_delivery x from e)
   later zero (Answer t) e = absurd (no_answer x t none.answers e)
   later zero (Settle l) e = absurd (no_settle x l none.settles e)
   later zero (MakeOffer l) e = absurd (no_offer x l none.offers e)
-  later zero (Leave d) e = context_no_later c d (n.least (Leave d) refl e refl)
+  later zero (Leave d) e = number_no_later c d (n.least (Leave d) refl e refl)
   later zero (Back d) e = refl
+leave_first x scripts _ n none = absurd (true≢false (sym n.kind))
 
 -- the least give-back is, where nothing can be left either
 pub back_first : (x : Rank) (scripts : AllScripts) (act : Act) → IsNext x kind.Back None act → NoneAgree x → NoneNext x kind.Leave None → IsFirstChoice (x ∷ []) scripts (record { rank = 0; act = act })
-back_first x scripts (Call t op) n none leaves = absurd (true≢false (sym n.kind))
-back_first x scripts (Answer t) n none leaves = absurd (true≢false (sym n.kind))
-back_first x scripts (Settle key) n none leaves = absurd (true≢false (sym n.kind))
-back_first x scripts (MakeOffer key) n none leaves = absurd (true≢false (sym n.kind))
-back_first x scripts (Leave c) n none leaves = absurd (true≢false (sym n.kind))
 back_first x scripts (Back c) n none leaves = record {
   may = record { enabled = n.enabled; scripted = tt };
   least = λ d may. later d.rank d.act may.enabled;
@@ -150,11 +184,13 @@ back_first x scripts (Back c) n none leaves = record {
   later : (r : ℕ) (a : Act) → may_happen (x ∷ []) (record { rank = r; act = a }) ≡ true → is_no_later (x ∷ []) (record { rank = 0; act = Back c }) (record { rank = r; act = a }) ≡ true
   later (suc r) a e = absurd (true≢false (sym e ∙ far x r a))
   later zero (Call t op) e = refl
+  later zero (Deliver from) e = absurd (no_delivery x from e)
   later zero (Answer t) e = absurd (no_answer x t none.answers e)
   later zero (Settle l) e = absurd (no_settle x l none.settles e)
   later zero (MakeOffer l) e = absurd (no_offer x l none.offers e)
   later zero (Leave d) e = absurd (no_leave x d leaves e)
-  later zero (Back d) e = context_no_later c d (n.least (Back d) refl e refl)
+  later zero (Back d) e = number_no_later c d (n.least (Back d) refl e refl)
+back_first x scripts _ n none leaves = absurd (true≢false (sym n.kind))
 
 -- a thread that has no script calls nothing
 others_end : (scripts : AllScripts) (t : ℕ) → 1 ≤ t → IsSolo scripts → (calls : ℕ) → next_op scripts 0 t calls ≡ None
@@ -174,6 +210,7 @@ call_first x scripts act alone still n = subst (λ (a : Act). IsFirstChoice (x �
   later (suc r) a e s = absurd (true≢false (sym e ∙ far x r a))
   later zero (Call zero op) e s = refl
   later zero (Call (suc t) op) e s = grind (arith, nat_tests)
+  later zero (Deliver from) e s = absurd (no_delivery x from e)
   later zero (Answer t) e s = absurd (no_answer x t still.agree.answers e)
   later zero (Settle l) e s = absurd (no_settle x l still.agree.settles e)
   later zero (MakeOffer l) e s = absurd (no_offer x l still.agree.offers e)
@@ -215,6 +252,7 @@ none_first x scripts job still none = record {
   calm : (r : ℕ) (a : Act) → is_call a ≡ false → may_happen (x ∷ []) (record { rank = r; act = a }) ≡ false
   calm (suc r) a e = far x r a
   calm zero (Call t op) e = absurd (true≢false e)
+  calm zero (Deliver from) e = not_before _ (no_delivery x from)
   calm zero (Answer t) e = not_before _ (no_answer x t still.agree.answers)
   calm zero (Settle l) e = not_before _ (no_settle x l still.agree.settles)
   calm zero (MakeOffer l) e = not_before _ (no_offer x l still.agree.offers)

@@ -5,3 +5,4 @@ mod Cuts
 mod Spelled
 mod Written
 mod Examples
+mod Texts

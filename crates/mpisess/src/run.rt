@@ -90,6 +90,7 @@ fn next_op(scripts: &Scripts, calls: u64) -> Option<&Op>
 }
 
 /// Makes a step.
+#[tactic(auto, unfolding(mpi_protocol::specs::Step::is_enabled))]
 fn make(state: &mut RankState<1>, act: Act) -> Entry
     requires enabled { is_enabled state.old.state act ≡ true }
     requires room { 1 ≤ state.old.spare }
@@ -102,6 +103,7 @@ fn make(state: &mut RankState<1>, act: Act) -> Entry
     match act {
         Act::Call { thread, op } => state.call(thread, op),
         Act::Answer { thread } => state.answer(thread),
+        Act::Deliver { .. } => unreachable!(),
         Act::Offer { key } => state.offer(key),
         Act::Settle { key } => state.settle(key),
         Act::Leave { ctx } => state.leave(ctx),

@@ -4,7 +4,7 @@ use crate::output::{write_all, write_journal};
 use crate::script::{MOST_LINES, ScriptError, read_script};
 use io_edge::{Failed, MemorySink, MemorySource, SureSource};
 use mpi_base::{Act, Choice, Entry, Name, Op, Reply};
-use script_text::{Line, write_op};
+use script_text::read_line;
 use std::test::Fail;
 
 #[test]
@@ -49,9 +49,8 @@ fn a_script_is_read_in_order(rt: HostRuntime) -> Result<(), Fail> {
     let scripts = read_script(rt.alloc(), bytes)?;
     assert_eq!(rt; scripts.len(0, 0), 3);
     for (place, line) in lines.iter().enumerate() {
-        let mut out = Line::new();
-        write_op(scripts.op(0, 0, place as u32), &mut out);
-        assert_eq!(rt; out.as_slice(), *line);
+        let op = scripts.op(0, 0, place as u32).copy();
+        assert!(rt; read_line(line) == Some(op));
     }
     Ok(())
 }
@@ -112,7 +111,9 @@ fn a_journal_has_a_line_for_each_entry(rt: HostRuntime) -> Result<(), Fail> {
                     op: Op::Session(target),
                 },
             },
+            brief: None,
             said: None,
+            matched: None,
             dropped: None,
             reply: Some(Reply::Fine),
         },
@@ -121,7 +122,9 @@ fn a_journal_has_a_line_for_each_entry(rt: HostRuntime) -> Result<(), Fail> {
                 rank: 0,
                 act: Act::Answer { thread: 0 },
             },
+            brief: None,
             said: None,
+            matched: None,
             dropped: None,
             reply: Some(Reply::Null),
         },

@@ -9,7 +9,7 @@ use Rattle.mpi_base.specs.declared.keys.Key.{Key}
 use Rattle.mpi_base.specs.Keys.{same_key, key_before}
 use Rattle.mpi_base.proofs.KeyFacts.{same_key_is, key_before_trans, key_before_irreflexive}
 use Rattle.mpi_base.specs.declared.entries.Act.{Act}
-use Rattle.mpi_base.specs.declared.entries.Act.TheVariants.{Call, Answer, Offer as MakeOffer, Settle, Leave, Back}
+use Rattle.mpi_base.specs.declared.entries.Act.TheVariants.{Answer, Offer as MakeOffer, Settle, Leave, Back}
 use Rattle.mpi_law.specs.declared.setting.TheConstants.{THREADS}
 use Rattle.mpi_protocol.specs.declared.rows.CommRow.{CommRow}
 use Rattle.mpi_protocol.specs.declared.rows.CreationRow.{CreationRow}
@@ -129,26 +129,18 @@ module _ (x : Rank) (after : Option Act) where
     where
       least : ((d : ℕ) → 0 ≤ d → d < t → (is_above after (Answer d) && is_enabled x (Answer d)) ≡ false)
           → (b : Act) → is_answer b ≡ true → is_enabled x b ≡ true → is_above after b ≡ true → act_before b (Answer t) ≡ false
-      least below (Call u op) k en ab = absurd (cc)
       least below (Answer u) k en ab = go (nat_lt u t) refl
         where
           go : (b : Bool) → nat_lt u t ≡ b → b ≡ false
           go true lt = let f = below u (omega arith) (grind (arith, nat_tests, lt)) in grind (arith, f, en, ab)
           go false lt = refl
-      least below (MakeOffer l) k en ab = absurd (cc)
-      least below (Settle l) k en ab = absurd (cc)
-      least below (Leave c) k en ab = absurd (cc)
-      least below (Back c) k en ab = absurd (cc)
+      least below _ k en ab = absurd (cc)
 
   -- where no thread passes, there is no next answer
   pub next_answer-none : find (λ t. is_above after (Answer t) && is_enabled x (Answer t)) (range_with_len 0 THREADS) ≡ None → NoneNext x kind.Answer after
-  next_answer-none e (Call u op) k en = absurd (cc)
   next_answer-none e (Answer u) k en =
       let f = find-range_none (λ t. is_above after (Answer t) && is_enabled x (Answer t)) 0 THREADS e u (omega arith) (answer-thread x u en) in grind (arith, f, en)
-  next_answer-none e (MakeOffer l) k en = absurd (cc)
-  next_answer-none e (Settle l) k en = absurd (cc)
-  next_answer-none e (Leave c) k en = absurd (cc)
-  next_answer-none e (Back c) k en = absurd (cc)
+  next_answer-none e _ k en = absurd (cc)
 
   -- the least key that passes is that of the next settle
   pub next_settle-found : (key : Key) → IsLeastKey (λ k. is_above after (Settle k) && is_enabled x (Settle k)) (map (λ o. o.key) x.gathered) (Some key) → IsNext x kind.Settle after (Settle key)
@@ -156,23 +148,15 @@ module _ (x : Rank) (after : Option Act) where
       let passes = h.0 in record { kind = refl; enabled = grind (arith, passes); above = grind (arith, passes); least = least }
     where
       least : (b : Act) → is_settle b ≡ true → is_enabled x b ≡ true → is_above after b ≡ true → act_before b (Settle key) ≡ false
-      least (Call u op) k en ab = absurd (cc)
-      least (Answer u) k en ab = absurd (cc)
-      least (MakeOffer l) k en ab = absurd (cc)
       least (Settle l) k en ab =
           settle-key (λ m. (is_above after (Settle m) && is_enabled x (Settle m)) ≡ true → key_before m key ≡ false) x l h.1 en (grind (arith, en, ab))
-      least (Leave c) k en ab = absurd (cc)
-      least (Back c) k en ab = absurd (cc)
+      least _ k en ab = absurd (cc)
 
   -- where no key passes, there is no next settle
   pub next_settle-none : IsLeastKey (λ k. is_above after (Settle k) && is_enabled x (Settle k)) (map (λ o. o.key) x.gathered) None → NoneNext x kind.Settle after
-  next_settle-none h (Call u op) k en = absurd (cc)
-  next_settle-none h (Answer u) k en = absurd (cc)
-  next_settle-none h (MakeOffer l) k en = absurd (cc)
   next_settle-none h (Settle l) k en =
       let f = settle-key (λ m. (is_above after (Settle m) && is_enabled x (Settle m)) ≡ false) x l h en in grind (arith, f, en)
-  next_settle-none h (Leave c) k en = absurd (cc)
-  next_settle-none h (Back c) k en = absurd (cc)
+  next_settle-none h _ k en = absurd (cc)
 
   -- the least key that passes is that of the next offer
   pub next_offer-found : (key : Key) → IsLeastKey (λ k. is_above after (MakeOffer k) && is_enabled x (MakeOffer k)) (map (λ o. o.key) x.opened) (Some key) → IsNext x kind.Offer after (MakeOffer key)
@@ -180,23 +164,15 @@ module _ (x : Rank) (after : Option Act) where
       let passes = h.0 in record { kind = refl; enabled = grind (arith, passes); above = grind (arith, passes); least = least }
     where
       least : (b : Act) → is_offer b ≡ true → is_enabled x b ≡ true → is_above after b ≡ true → act_before b (MakeOffer key) ≡ false
-      least (Call u op) k en ab = absurd (cc)
-      least (Answer u) k en ab = absurd (cc)
       least (MakeOffer l) k en ab =
           offer-key (λ m. (is_above after (MakeOffer m) && is_enabled x (MakeOffer m)) ≡ true → key_before m key ≡ false) x l h.1 en (grind (arith, en, ab))
-      least (Settle l) k en ab = absurd (cc)
-      least (Leave c) k en ab = absurd (cc)
-      least (Back c) k en ab = absurd (cc)
+      least _ k en ab = absurd (cc)
 
   -- where no key passes, there is no next offer
   pub next_offer-none : IsLeastKey (λ k. is_above after (MakeOffer k) && is_enabled x (MakeOffer k)) (map (λ o. o.key) x.opened) None → NoneNext x kind.Offer after
-  next_offer-none h (Call u op) k en = absurd (cc)
-  next_offer-none h (Answer u) k en = absurd (cc)
   next_offer-none h (MakeOffer l) k en =
       let f = offer-key (λ m. (is_above after (MakeOffer m) && is_enabled x (MakeOffer m)) ≡ false) x l h en in grind (arith, f, en)
-  next_offer-none h (Settle l) k en = absurd (cc)
-  next_offer-none h (Leave c) k en = absurd (cc)
-  next_offer-none h (Back c) k en = absurd (cc)
+  next_offer-none h _ k en = absurd (cc)
 
   -- the least context that passes is that of the next leave
   pub next_leave-found : (c : ℕ) → IsLeastContext (λ d. is_above after (Leave d) && is_enabled x (Leave d)) (map (λ m. m.ctx) x.comms) (Some c) → IsNext x kind.Leave after (Leave c)
@@ -204,23 +180,15 @@ module _ (x : Rank) (after : Option Act) where
       let passes = h.0 in record { kind = refl; enabled = grind (arith, passes); above = grind (arith, passes); least = least }
     where
       least : (b : Act) → is_leave b ≡ true → is_enabled x b ≡ true → is_above after b ≡ true → act_before b (Leave c) ≡ false
-      least (Call u op) k en ab = absurd (cc)
-      least (Answer u) k en ab = absurd (cc)
-      least (MakeOffer l) k en ab = absurd (cc)
-      least (Settle l) k en ab = absurd (cc)
       least (Leave d) k en ab =
           leave-context (λ m. (is_above after (Leave m) && is_enabled x (Leave m)) ≡ true → nat_lt m c ≡ false) x d h.1 en (grind (arith, en, ab))
-      least (Back d) k en ab = absurd (cc)
+      least _ k en ab = absurd (cc)
 
   -- where no context passes, there is no next leave
   pub next_leave-none : IsLeastContext (λ d. is_above after (Leave d) && is_enabled x (Leave d)) (map (λ m. m.ctx) x.comms) None → NoneNext x kind.Leave after
-  next_leave-none h (Call u op) k en = absurd (cc)
-  next_leave-none h (Answer u) k en = absurd (cc)
-  next_leave-none h (MakeOffer l) k en = absurd (cc)
-  next_leave-none h (Settle l) k en = absurd (cc)
   next_leave-none h (Leave d) k en =
       let f = leave-context (λ m. (is_above after (Leave m) && is_enabled x (Leave m)) ≡ false) x d h en in grind (arith, f, en)
-  next_leave-none h (Back d) k en = absurd (cc)
+  next_leave-none h _ k en = absurd (cc)
 
   -- the least context that passes is that of the next give-back
   pub next_back-found : (c : ℕ) → IsLeastContext (λ d. is_above after (Back d) && is_enabled x (Back d)) (map (λ m. m.ctx) x.comms) (Some c) → IsNext x kind.Back after (Back c)
@@ -228,23 +196,15 @@ module _ (x : Rank) (after : Option Act) where
       let passes = h.0 in record { kind = refl; enabled = grind (arith, passes); above = grind (arith, passes); least = least }
     where
       least : (b : Act) → is_back b ≡ true → is_enabled x b ≡ true → is_above after b ≡ true → act_before b (Back c) ≡ false
-      least (Call u op) k en ab = absurd (cc)
-      least (Answer u) k en ab = absurd (cc)
-      least (MakeOffer l) k en ab = absurd (cc)
-      least (Settle l) k en ab = absurd (cc)
-      least (Leave d) k en ab = absurd (cc)
       least (Back d) k en ab =
           back-context (λ m. (is_above after (Back m) && is_enabled x (Back m)) ≡ true → nat_lt m c ≡ false) x d h.1 en (grind (arith, en, ab))
+      least _ k en ab = absurd (cc)
 
   -- where no context passes, there is no next give-back
   pub next_back-none : IsLeastContext (λ d. is_above after (Back d) && is_enabled x (Back d)) (map (λ m. m.ctx) x.comms) None → NoneNext x kind.Back after
-  next_back-none h (Call u op) k en = absurd (cc)
-  next_back-none h (Answer u) k en = absurd (cc)
-  next_back-none h (MakeOffer l) k en = absurd (cc)
-  next_back-none h (Settle l) k en = absurd (cc)
-  next_back-none h (Leave d) k en = absurd (cc)
   next_back-none h (Back d) k en =
       let f = back-context (λ m. (is_above after (Back m) && is_enabled x (Back m)) ≡ false) x d h en in grind (arith, f, en)
+  next_back-none h _ k en = absurd (cc)
 
   -- what comes of the first thread that passes
   pub next_answer-result : (o : Option ℕ) (r : Option Act) → o ≡ find (λ t. is_above after (Answer t) && is_enabled x (Answer t)) (range_with_len 0 THREADS) → r ≡ option_map (λ t. Answer t) o

@@ -1,7 +1,7 @@
 -- What a call does, before anything is changed.
 use Rattle.std.specs.Prelude.{◌+◌, Result, Ok, Err}
 use Rattle.mpi_base.specs.declared.errors.ErrClass.{ErrClass}
-use Rattle.mpi_base.specs.declared.ops.Reply.TheVariants as reply
+use Rattle.mpi_base.specs.declared.replies.Reply.TheVariants as reply
 use Rattle.mpi_law.specs.declared.rows.Bound.TheVariants as bound
 use Rattle.mpi_law.specs.Local.{Local, Effect, Says, Frees, Origin, Grouped, Duplicated, bind, unbind, ask}
 use Rattle.rank_core.specs.declared.calls.Origin.{Origin as Source}

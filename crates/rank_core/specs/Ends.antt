@@ -1,8 +1,8 @@
 -- What the end of a creation leaves at a caller.
 use Rattle.std.specs.Prelude.{ℕ, List, length, Option, Some, None}
 use Rattle.mpi_base.specs.declared.errors.ErrClass.TheVariants as class
-use Rattle.mpi_base.specs.declared.ops.Reply.{Reply}
-use Rattle.mpi_base.specs.declared.ops.Reply.TheVariants as reply
+use Rattle.mpi_base.specs.declared.replies.Reply.{Reply}
+use Rattle.mpi_base.specs.declared.replies.Reply.TheVariants as reply
 use Rattle.mpi_law.specs.declared.rows.Bound.TheVariants as bound
 use Rattle.mpi_law.specs.declared.rows.NameRow.{NameRow}
 use Rattle.mpi_law.specs.Local.{rebind, unbind}

@@ -4,7 +4,7 @@ use Rattle.std.specs.List.{AllByRecursion}
 use Rattle.mpi_base.specs.declared.keys.Key.{Key}
 use Rattle.mpi_base.specs.Keys.{key_before}
 use Rattle.mpi_base.specs.declared.entries.Act.{Act}
-use Rattle.mpi_base.specs.declared.entries.Act.TheVariants.{Call, Answer, Offer as MakeOffer, Settle, Leave, Back}
+use Rattle.mpi_base.specs.declared.entries.Act.TheVariants.{Answer, Offer as MakeOffer, Settle, Leave, Back}
 use Rattle.mpi_protocol.specs.Rank.{Rank}
 use Rattle.mpi_protocol.specs.Step.{is_enabled}
 use Rattle.rank_core.specs.declared.next.StepKind.{StepKind}
@@ -12,48 +12,28 @@ use Rattle.rank_core.specs.declared.next.StepKind.TheVariants as kind
 
 -- the answer of a thread
 abbrev pub is_answer : Act → Bool
-is_answer (Call t op) = false
 is_answer (Answer t) = true
-is_answer (MakeOffer key) = false
-is_answer (Settle key) = false
-is_answer (Leave c) = false
-is_answer (Back c) = false
+is_answer _ = false
 
 -- the settle of a key
 abbrev pub is_settle : Act → Bool
-is_settle (Call t op) = false
-is_settle (Answer t) = false
-is_settle (MakeOffer key) = false
 is_settle (Settle key) = true
-is_settle (Leave c) = false
-is_settle (Back c) = false
+is_settle _ = false
 
 -- the offer for a key
 abbrev pub is_offer : Act → Bool
-is_offer (Call t op) = false
-is_offer (Answer t) = false
 is_offer (MakeOffer key) = true
-is_offer (Settle key) = false
-is_offer (Leave c) = false
-is_offer (Back c) = false
+is_offer _ = false
 
 -- the leave of a communicator
 abbrev pub is_leave : Act → Bool
-is_leave (Call t op) = false
-is_leave (Answer t) = false
-is_leave (MakeOffer key) = false
-is_leave (Settle key) = false
 is_leave (Leave c) = true
-is_leave (Back c) = false
+is_leave _ = false
 
 -- the give-back of a communicator
 abbrev pub is_back : Act → Bool
-is_back (Call t op) = false
-is_back (Answer t) = false
-is_back (MakeOffer key) = false
-is_back (Settle key) = false
-is_back (Leave c) = false
 is_back (Back c) = true
+is_back _ = false
 
 -- whether a step is of a kind
 abbrev pub is_of_kind : StepKind → Act → Bool
@@ -65,57 +45,37 @@ is_of_kind kind.Back a = is_back a
 
 -- whether a thread comes before that of an answer
 abbrev pub thread_before : ℕ → Act → Bool
-thread_before t (Call u op) = false
 thread_before t (Answer u) = nat_lt t u
-thread_before t (MakeOffer l) = false
-thread_before t (Settle l) = false
-thread_before t (Leave d) = false
-thread_before t (Back d) = false
+thread_before t _ = false
 
 -- whether a key comes before that of a settle
 abbrev pub settle_before : Key → Act → Bool
-settle_before k (Call u op) = false
-settle_before k (Answer u) = false
-settle_before k (MakeOffer l) = false
 settle_before k (Settle l) = key_before k l
-settle_before k (Leave d) = false
-settle_before k (Back d) = false
+settle_before k _ = false
 
 -- whether a key comes before that of an offer
 abbrev pub offer_before : Key → Act → Bool
-offer_before k (Call u op) = false
-offer_before k (Answer u) = false
 offer_before k (MakeOffer l) = key_before k l
-offer_before k (Settle l) = false
-offer_before k (Leave d) = false
-offer_before k (Back d) = false
+offer_before k _ = false
 
 -- whether a context comes before that of a leave
 abbrev pub leave_before : ℕ → Act → Bool
-leave_before c (Call u op) = false
-leave_before c (Answer u) = false
-leave_before c (MakeOffer l) = false
-leave_before c (Settle l) = false
 leave_before c (Leave d) = nat_lt c d
-leave_before c (Back d) = false
+leave_before c _ = false
 
 -- whether a context comes before that of a give-back
 abbrev pub back_before : ℕ → Act → Bool
-back_before c (Call u op) = false
-back_before c (Answer u) = false
-back_before c (MakeOffer l) = false
-back_before c (Settle l) = false
-back_before c (Leave d) = false
 back_before c (Back d) = nat_lt c d
+back_before c _ = false
 
 -- of two steps of one kind, whether the first comes first: by thread, by key, or by context
 abbrev pub act_before : Act → Act → Bool
-act_before (Call t op) b = false
 act_before (Answer t) b = thread_before t b
 act_before (MakeOffer k) b = offer_before k b
 act_before (Settle k) b = settle_before k b
 act_before (Leave c) b = leave_before c b
 act_before (Back c) b = back_before c b
+act_before _ b = false
 
 -- whether a step comes after one that may be there
 abbrev pub is_above : Option Act → Act → Bool

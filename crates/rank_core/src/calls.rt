@@ -224,6 +224,7 @@ impl<const W: usize> RankState<W> {
             Op::Create(group, tag, target) => self.create(group, tag, target),
             Op::Dup(comm, target) => self.dup(comm, target),
             Op::Free(comm) => self.free(comm),
+            _ => unreachable!(),
         }
     }
 
@@ -359,14 +360,16 @@ impl<const W: usize> RankState<W> {
         dropped: Option<u64>,
         reply: Option<Reply>,
     ) -> Entry
-        ensures { result ≡ record { choice = record { rank = self.now.state.rank; act = act }; said = said; dropped = dropped; reply = reply } }
+        ensures { result ≡ record { choice = record { rank = self.now.state.rank; act = act }; brief = None; said = said; matched = None; dropped = dropped; reply = reply } }
     {
         Entry {
             choice: Choice {
                 rank: self.rank,
                 act,
             },
+            brief: None,
             said,
+            matched: None,
             dropped,
             reply,
         }

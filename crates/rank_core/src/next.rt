@@ -174,6 +174,7 @@ impl<const W: usize> RankState<W> {
         match act {
             Act::Call { thread, op } => self.can_call(*thread, op),
             Act::Answer { thread } => self.can_answer(*thread),
+            Act::Deliver { .. } => false,
             Act::Offer { key } => self.can_offer(key),
             Act::Settle { key } => self.can_settle(key),
             Act::Leave { ctx } => self.can_leave(*ctx),

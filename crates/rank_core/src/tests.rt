@@ -501,7 +501,9 @@ fn journal(rt: HostRuntime) -> Result<(), Fail> {
                 rank: 0,
                 act: Act::Answer { thread },
             },
+            brief: None,
             said: None,
+            matched: None,
             dropped: None,
             reply: Some(Reply::Null),
         });

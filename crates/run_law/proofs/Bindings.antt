@@ -4,8 +4,8 @@ use Rattle.std.specs.Option.{is_some}
 use Rattle.std.proofs.lemmas.Bool.Decides.{nat_tests}
 use Rattle.mpi_base.specs.declared.ops.Op.{Op}
 use Rattle.mpi_base.specs.declared.ops.Op.TheVariants as op
-use Rattle.mpi_base.specs.declared.ops.Reply.{Reply}
-use Rattle.mpi_base.specs.declared.ops.Reply.TheVariants.{Fine, Group}
+use Rattle.mpi_base.specs.declared.replies.Reply.{Reply}
+use Rattle.mpi_base.specs.declared.replies.Reply.TheVariants.{Fine, Group}
 use Rattle.mpi_base.specs.declared.errors.ErrClass.{ErrClass}
 use Rattle.mpi_base.specs.declared.errors.ErrClass.TheVariants as class
 use Rattle.mpi_base.proofs.KeyFacts.{same_bytes}
@@ -200,3 +200,4 @@ effect_names s rank busy l (op.Dup comm target) a =
     names_then l (as_comm (bound_of l.names comm)) _ a (λ c e. names_then l (refuse_if (is_some (bound_of l.names target)) class.Arg) _ a (λ q e1. asks_bound l (Duplicated c.0) target c.1 a (not_refused _ _ _ e1)))
 effect_names s rank busy l (op.Free comm) a =
     names_then l (as_comm (bound_of l.names comm)) _ a (λ c e. record { apart = apart_unbind l.names comm a; unbound = λ d z. other_unbind l.names comm d z; frees = bound_some l.names comm c.0 c.1 (comm_is (bound_of l.names comm) c e) })
+effect_names s rank busy l _ a = record { apart = a; unbound = λ d z. z; frees = tt }

@@ -8,7 +8,7 @@ use Rattle.mpi_base.specs.declared.keys.Key.{Key}
 use Rattle.mpi_base.specs.Keys.{same_key}
 use Rattle.mpi_base.proofs.KeyFacts.{same_key_is, same_key-refl}
 use Rattle.mpi_base.specs.declared.ops.Op.{Op}
-use Rattle.mpi_base.specs.declared.ops.Reply.{Reply}
+use Rattle.mpi_base.specs.declared.replies.Reply.{Reply}
 use Rattle.mpi_law.specs.declared.setting.Setting.{Setting}
 use Rattle.mpi_law.specs.ScriptLists.{is_built}
 use Rattle.mpi_law.specs.Local.{Local, Asked, Effect, Says, Joins, Frees as FreesIt, effect_of}
@@ -50,7 +50,7 @@ idle_both g r x Returned b e f = absurd (cc (e))
 
 -- A reply at once
 
-module _ (s : Setting) (w : List Rank) (g : Registry) (r t : ℕ) (op : Op) (j : Joined s w g) (lt : r < s.ranks) (t8 : t < 8) (waits : (thread_at (rank_at w r) t).waits ≡ Nothing) (part_waits : (thread_of g r t).wait ≡ Idle)
+module _ (s : Setting) (w : List Rank) (g : Registry) (r t : ℕ) (op : Op) (j : Joined s w g) (lt : r < s.ranks) (t8 : t < 8) (waits : (thread_at (rank_at w r) t).waits ≡ Nothing) (part_waits : (thread_of g r t).wait ≡ Idle) (built : is_built op ≡ true)
     (l m : Local) (said back : Reply) (effect : effect_at s g r op ≡ Says m back) (local : LocalFits g.comms r l m) (same : back ≡ said) (names : EffectNames (rank_at w r).local.names (Says l said)) where
   said_row : ThreadRow
   said_row = record { calls = (thread_at (rank_at w r) t).calls + 1; waits = Nothing }
@@ -131,7 +131,7 @@ module _ (s : Setting) (w : List Rank) (g : Registry) (r t : ℕ) (op : Op) (j :
   pub said_goes : Goes s g (Calls r t op true ∷ Replies r t said ∷ []) (set w r (record (rank_at w r) { local = l; threads = set (rank_at w r).threads t (record { calls = (thread_at (rank_at w r) t).calls + 1; waits = Nothing }) }))
   unfolding registry_next asked new now_part part said_part said_row y
   said_goes =
-      let may : MayCall s g r t op true = record { rank = lt; thread = t8; idle = rw part_waits refl; reply = rw effect refl } in
+      let may : MayCall s g r t op true = record { rank = lt; thread = t8; built = built; idle = rw part_waits refl; reply = rw effect refl } in
       let after : after_effect g r t (effect_at s g r op) ≡ asked = rw effect refl in
       let owes : owed asked r t ≡ Some said = ap (λ (z : ThreadPart). owed_to asked r z.wait) thread_asked ∙ ap (λ (q : Reply). Some q) same in
       let ends : after_reply asked r t (thread_of asked r t).wait ≡ new = ap (λ (z : ThreadPart). after_reply asked r t z.wait) thread_asked ∙ replied in
@@ -153,7 +153,7 @@ offer_some : (o : Option Stage) (own : Bool) → offer_fits o own ≡ true → i
 offer_some None own f = absurd (cc (f))
 offer_some (Some a) own f = refl
 
-module _ (s : Setting) (w : List Rank) (g : Registry) (r t : ℕ) (op : Op) (j : Joined s w g) (lt : r < s.ranks) (t8 : t < 8) (waits : (thread_at (rank_at w r) t).waits ≡ Nothing) (part_waits : (thread_of g r t).wait ≡ Idle)
+module _ (s : Setting) (w : List Rank) (g : Registry) (r t : ℕ) (op : Op) (j : Joined s w g) (lt : r < s.ranks) (t8 : t < 8) (waits : (thread_at (rank_at w r) t).waits ≡ Nothing) (part_waits : (thread_of g r t).wait ≡ Idle) (built : is_built op ≡ true)
     (l m : Local) (a b : Asked) (effect : effect_at s g r op ≡ Joins m b) (local : LocalFits g.comms r l m) (target : b.target ≡ a.target) (session : b.session ≡ a.session) (q : Asks g r (rank_at w r) a.origin b.origin) (names : EffectNames (rank_at w r).local.names (Joins l a)) where
   key : Key
   key = key_of (rank_at w r) a.origin
@@ -427,7 +427,7 @@ module _ (s : Setting) (w : List Rank) (g : Registry) (r t : ℕ) (op : Op) (j :
   pub joined_goes : Goes s g (Calls r t op false ∷ []) (set w r (joined (rank_at w r) t l a))
   unfolding registry_next grown row caller part' joined_part y'
   joined_goes =
-      let may : MayCall s g r t op false = record { rank = lt; thread = t8; idle = rw part_waits refl; reply = rw effect refl } in
+      let may : MayCall s g r t op false = record { rank = lt; thread = t8; built = built; idle = rw part_waits refl; reply = rw effect refl } in
       let rows = join-new g.creations (name_of g r b.origin) (group_of g b.origin) caller none_open in
       let after : after_effect g r t (effect_at s g r op) ≡ grown = rw (effect, none_open, rows) refl in
       let whole : Joined s (set w r y') grown = joined_step s w g grown r y' part' j lt refl grows kept' whole' in
@@ -449,8 +449,8 @@ call_goes s w g r t op j lt t8 idle built =
   where
     go : (thread_at (rank_at w r) t).waits ≡ Nothing → (thread_of g r t).wait ≡ Idle → (a b : Effect) → effect_at s g r op ≡ b → EffectFits g.comms r (is_open_here (rank_at w r)) a b → EffectNames (rank_at w r).local.names a
         → Goes s g (Calls r t op (is_some (called (rank_at w r) t a).reply) ∷ reply_events r t (called (rank_at w r) t a).reply) (set w r (called (rank_at w r) t a).state)
-    go wx wp (Says l said) (Says m back) e fit names = said_goes s w g r t op j lt t8 wx wp l m said back e fit.0 fit.1 names
+    go wx wp (Says l said) (Says m back) e fit names = said_goes s w g r t op j lt t8 wx wp built l m said back e fit.0 fit.1 names
     go wx wp (Joins l a) (Joins m b) e fit names =
-        joined_goes s w g r t op j lt t8 wx wp l m a b e fit.0 fit.1 fit.2 (asks s g r (rank_at w r) (part_of g r) (j.fits r lt) a.origin b.origin fit.3) names
-    go wx wp (FreesIt l c) (FreesIt m p) e fit names = free_goes s w g r t op j lt t8 wx wp l m c p e fit.0 fit.1 fit.2 fit.3 names
+        joined_goes s w g r t op j lt t8 wx wp built l m a b e fit.0 fit.1 fit.2 (asks s g r (rank_at w r) (part_of g r) (j.fits r lt) a.origin b.origin fit.3) names
+    go wx wp (FreesIt l c) (FreesIt m p) e fit names = free_goes s w g r t op j lt t8 wx wp built l m c p e fit.0 fit.1 fit.2 fit.3 names
     go wx wp a b e fit names = absurd fit

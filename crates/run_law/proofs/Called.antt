@@ -4,7 +4,7 @@ use Rattle.std.proofs.lemmas.Bool.Decides.{nat_tests}
 use Rattle.mpi_base.specs.declared.keys.Key.{Key}
 use Rattle.mpi_base.specs.declared.ops.Op.{Op}
 use Rattle.mpi_base.specs.declared.entries.Act.{Act}
-use Rattle.mpi_base.specs.declared.entries.Act.TheVariants.{Call, Answer, Offer as MakeOffer, Settle, Leave, Back}
+use Rattle.mpi_base.specs.declared.entries.Act.TheVariants.{Call, Answer, Deliver, Offer as MakeOffer, Settle, Leave, Back}
 use Rattle.mpi_base.specs.declared.entries.Choice.{Choice}
 use Rattle.mpi_base.specs.declared.entries.Entry.{Entry}
 use Rattle.mpi_law.specs.declared.setting.Setting.{Setting}
@@ -37,6 +37,7 @@ use Rattle.run_law.proofs.Quiet.{all_idle}
 abbrev called_by : ℕ → Act → ℕ
 called_by u (Call t op) = one (t == u)
 called_by u (Answer t) = 0
+called_by u (Deliver from) = 0
 called_by u (MakeOffer key) = 0
 called_by u (Settle key) = 0
 called_by u (Leave c) = 0
@@ -93,6 +94,7 @@ step_calls x (Answer t) u inside = at (thread_at x t).waits
     at (Creates key target session) = done key target session (stage_of x.opened key)
     at (Freeing c) = omega arith
     at Returned = plus _ _ (same_calls x.threads t u (record { calls = (thread_at x t).calls; waits = Nothing }) refl)
+step_calls x (Deliver from) u inside = omega arith
 step_calls x (Leave c) u inside = omega arith
 step_calls x (Back c) u inside = let e = ap (λ (z : ThreadRow). z.calls) (get_or-threads x.threads c u) ∙ returned_calls c (thread_at x u) in omega (arith, e)
 step_calls x (MakeOffer key) u inside = go (stage_of x.opened key)
@@ -143,6 +145,7 @@ entry_calls s w g scripts c r t j lt may scripted = go (c.rank == r) refl (set_p
     elsewhere : (a : Act) → (c.rank == r) ≡ false → call_of r t c.rank a ≡ []
     elsewhere (Call u op) e = rw e refl
     elsewhere (Answer u) e = refl
+    elsewhere (Deliver from) e = refl
     elsewhere (MakeOffer key) e = refl
     elsewhere (Settle key) e = refl
     elsewhere (Leave c) e = refl
@@ -158,6 +161,7 @@ entry_calls s w g scripts c r t j lt may scripted = go (c.rank == r) refl (set_p
             sym (drop_at (script_of scripts r t) (calls_at w r t) op at)
         by_thread false e = let z : calls_at w r t + 0 ≡ calls_at w r t = omega arith in ap (λ (n : ℕ). drop n (script_of scripts r t)) z
     here (Answer u) b q h = let z : calls_at w r t + 0 ≡ calls_at w r t = omega arith in ap (λ (n : ℕ). drop n (script_of scripts r t)) z
+    here (Deliver from) b q h = let z : calls_at w r t + 0 ≡ calls_at w r t = omega arith in ap (λ (n : ℕ). drop n (script_of scripts r t)) z
     here (MakeOffer key) b q h = let z : calls_at w r t + 0 ≡ calls_at w r t = omega arith in ap (λ (n : ℕ). drop n (script_of scripts r t)) z
     here (Settle key) b q h = let z : calls_at w r t + 0 ≡ calls_at w r t = omega arith in ap (λ (n : ℕ). drop n (script_of scripts r t)) z
     here (Leave d) b q h = let z : calls_at w r t + 0 ≡ calls_at w r t = omega arith in ap (λ (n : ℕ). drop n (script_of scripts r t)) z

@@ -10,7 +10,7 @@ use Rattle.mpi_base.specs.declared.ops.Op.TheVariants as op
 use Rattle.mpi_base.specs.declared.errors.ErrClass.{ErrClass}
 use Rattle.mpi_base.specs.declared.errors.ErrClass.TheVariants as class
 use Rattle.mpi_base.specs.declared.entries.Act.{Act}
-use Rattle.mpi_base.specs.declared.entries.Act.TheVariants.{Call, Answer, Offer as MakeOffer, Settle, Leave, Back}
+use Rattle.mpi_base.specs.declared.entries.Act.TheVariants.{Call, Answer, Deliver, Offer as MakeOffer, Settle, Leave, Back}
 use Rattle.mpi_base.specs.declared.entries.Choice.{Choice}
 use Rattle.mpi_base.specs.declared.entries.Entry.{Entry}
 use Rattle.mpi_law.specs.declared.setting.Setting.{Setting}
@@ -63,6 +63,7 @@ effect_small s rank busy l (op.Create group tag target) =
 effect_small s rank busy l (op.Free comm) = small_then l (as_comm (bound_of l.names comm)) _ (λ c. omega arith)
 effect_small s rank busy l (op.Dup comm target) =
     small_then l (as_comm (bound_of l.names comm)) _ (λ c. small_then l (refuse_if (is_some (bound_of l.names target)) class.Arg) _ (λ q. omega arith))
+effect_small s rank busy l _ = omega arith
 
 -- each communicator counts at most so many creations
 abbrev AllCount : ℕ → List CommRow → Type 0
@@ -155,6 +156,7 @@ step_small x (Answer t) = at (thread_at x t).waits
     at (Creates key target session) = done key target session (stage_of x.opened key)
     at (Freeing c) = same
     at Returned = record { sessions = omega arith; calls = λ u. changed x t u _ (omega arith); creations = same_comms x; rounds = same_rounds x }
+step_small x (Deliver from) = record { sessions = omega arith; calls = same_threads x; creations = same_comms x; rounds = same_rounds x }
 step_small x (Leave c) = record { sessions = omega arith; calls = same_threads x; creations = staged_count x c Left; rounds = same_rounds x }
 step_small x (Back c) = record { sessions = omega arith; calls = λ u. returned u; creations = dropped_count x c; rounds = same_rounds x }
   where

@@ -5,7 +5,7 @@ use Rattle.std.proofs.lemmas.Bool.Decides.{nat_tests}
 use Rattle.std.specs.List.{list_any, list_all, range_with_len}
 use Rattle.mpi_base.specs.declared.keys.Key.{Key}
 use Rattle.mpi_base.specs.declared.ops.Op.{Op}
-use Rattle.mpi_base.specs.declared.ops.Reply.{Reply}
+use Rattle.mpi_base.specs.declared.replies.Reply.{Reply}
 use Rattle.mpi_law.specs.declared.setting.Setting.{Setting}
 use Rattle.mpi_law.specs.ScriptLists.{AllScripts, next_op}
 use Rattle.mpi_law.specs.Registry.{Registry, Creation, MayPick, Allowed, Calls, Picks, Backs, Replies, blank_creation, has_called, is_idle_wait, owed, thread_of, undecided_place, key_place, CreationName, stands_for, place_of_name, same_name}

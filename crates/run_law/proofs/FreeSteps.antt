@@ -13,6 +13,7 @@ use Rattle.mpi_law.specs.declared.rows.Bound.TheVariants as bound
 use Rattle.mpi_law.specs.declared.rows.NameRow.{NameRow}
 use Rattle.mpi_law.specs.declared.setting.Setting.{Setting}
 use Rattle.mpi_law.specs.Local.{Local, Frees as FreesIt}
+use Rattle.mpi_law.specs.ScriptLists.{is_built}
 use Rattle.mpi_law.specs.Registry.{Registry, Calls, Communicator, RankPart, ThreadPart, Outcome, Wait, Idle, Creating, Freeing, MayCall, LiveApart, blank_comm, idle_thread as idle_part, comm_of, with_freed, thread_of, part_of, effect_at, registry_next, after_effect}
 use Rattle.mpi_protocol.specs.declared.rows.CommRow.{CommRow}
 use Rattle.mpi_protocol.specs.declared.rows.CommStage.{CommStage}
@@ -61,7 +62,7 @@ none_bound (x ∷ xs) c z = go (is_comm c x.bound) refl (none_bound xs c)
     go true e ih = absurd (let o : one (is_comm c x.bound) ≡ 1 = ap one e in omega (arith, o, z))
     go false e ih = let o : one (is_comm c x.bound) ≡ 0 = ap one e in let k = ih (omega (arith, o, z)) in grind (arith, e, k)
 
-module _ (s : Setting) (w : List Rank) (g : Registry) (r t : ℕ) (op : Op) (j : Joined s w g) (lt : r < s.ranks) (t8 : t < 8) (waits : (thread_at (rank_at w r) t).waits ≡ Nothing) (part_waits : (thread_of g r t).wait ≡ Idle)
+module _ (s : Setting) (w : List Rank) (g : Registry) (r t : ℕ) (op : Op) (j : Joined s w g) (lt : r < s.ranks) (t8 : t < 8) (waits : (thread_at (rank_at w r) t).waits ≡ Nothing) (part_waits : (thread_of g r t).wait ≡ Idle) (built : is_built op ≡ true)
     (l m : Local) (c p : ℕ) (effect : effect_at s g r op ≡ FreesIt m p) (local : LocalFits g.comms r l m) (here : comm_of g.comms r c ≡ Some p) (used : has_rank (get_or g.comms p blank_comm).freed r ≡ false) (none : tally (binds c) l.names ≡ 0)
     (names : EffectNames (rank_at w r).local.names (FreesIt l c)) where
   made : Communicator
@@ -262,7 +263,7 @@ module _ (s : Setting) (w : List Rank) (g : Registry) (r t : ℕ) (op : Op) (j :
   pub free_goes : Goes s g (Calls r t op false ∷ []) (set w r (record (rank_at w r) { comms = set_comm_stage (rank_at w r).comms c Freed; local = l; threads = set (rank_at w r).threads t (record { calls = (thread_at (rank_at w r) t).calls + 1; waits = Frees c }) }))
   unfolding registry_next new y part thread row made
   free_goes =
-      let may : MayCall s g r t op false = record { rank = lt; thread = t8; idle = rw part_waits refl; reply = rw effect refl } in
+      let may : MayCall s g r t op false = record { rank = lt; thread = t8; built = built; idle = rw part_waits refl; reply = rw effect refl } in
       let after : after_effect g r t (effect_at s g r op) ≡ new = rw effect refl in
       let live : LiveApart new = subst (λ (h : Registry). LiveApart h) after (event_apart s g (Calls r t op false) may j.whole.apart) in
       let done : Joined s (set w r y) new = joined_step s w g new r y part j lt refl grows kept (whole live) in

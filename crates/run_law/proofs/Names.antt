@@ -4,7 +4,7 @@ use Rattle.std.specs.Option.{is_some}
 use Rattle.std.proofs.lemmas.Bool.Decides.{nat_tests}
 use Rattle.mpi_base.specs.declared.ops.Op.{Op}
 use Rattle.mpi_base.specs.declared.ops.Op.TheVariants as op
-use Rattle.mpi_base.specs.declared.ops.Reply.TheVariants.{Fine, Group}
+use Rattle.mpi_base.specs.declared.replies.Reply.TheVariants.{Fine, Group}
 use Rattle.mpi_base.specs.declared.errors.ErrClass.{ErrClass}
 use Rattle.mpi_base.specs.declared.errors.ErrClass.TheVariants.{Arg}
 use Rattle.mpi_base.specs.declared.errors.ErrClass.TheVariants as class
@@ -220,3 +220,4 @@ effect_fits s comms r busy open_at agree l m fits apart (op.Pset session set tar
 effect_fits s comms r busy open_at agree l m fits apart (op.Create group tag target) b = create_fits comms r busy open_at agree l m fits group tag target
 effect_fits s comms r busy open_at agree l m fits apart (op.Dup comm target) b = dup_fits comms r busy l m fits comm target
 effect_fits s comms r busy open_at agree l m fits apart (op.Free comm) b = free_fits comms r busy l m fits apart comm
+effect_fits s comms r busy open_at agree l m fits apart _ b = absurd (cc (b))

@@ -5,7 +5,7 @@ use Rattle.std.proofs.lemmas.List.{length-replicate}
 use Rattle.std.proofs.lemmas.List.FromFn.{get_or-map-range_with_len, length-map-range_with_len}
 use Rattle.mpi_base.specs.declared.keys.Key.{Key}
 use Rattle.mpi_base.specs.declared.entries.Act.{Act}
-use Rattle.mpi_base.specs.declared.entries.Act.TheVariants.{Call, Answer, Offer as MakeOffer, Settle, Leave, Back}
+use Rattle.mpi_base.specs.declared.entries.Act.TheVariants.{Call, Answer, Deliver, Offer as MakeOffer, Settle, Leave, Back}
 use Rattle.mpi_base.specs.declared.entries.Choice.{Choice}
 use Rattle.mpi_base.specs.declared.entries.Entry.{Entry}
 use Rattle.mpi_law.specs.declared.setting.Setting.{Setting}
@@ -56,6 +56,7 @@ step_goes s w g c j may =
     go r (Answer t) lt e =
         let a = both_true (nat_lt t 8) (is_answerable (rank_at w r) (thread_at (rank_at w r) t).waits) e in
         answer_goes s w g r t j lt (grind (arith, nat_tests, a.0)) a.1
+    go r (Deliver from) lt e = absurd (cc (e))
     go r (MakeOffer key) lt e = (tt, due r key lt (stage_of (rank_at w r).opened key) refl e)
     go r (Settle key) lt e =
         let a = both_true (is_first (rank_at w r).rank key.members) (is_ready (rank_at w r).gathered key) e in

@@ -8,7 +8,7 @@ use Rattle.mpi_base.specs.Keys.{same_key, key_before}
 use Rattle.mpi_base.proofs.KeyFacts.{same_key_is, same_key-refl, key_before_irreflexive}
 use Rattle.mpi_base.specs.declared.ops.Op.{Op}
 use Rattle.mpi_base.specs.declared.entries.Act.{Act}
-use Rattle.mpi_base.specs.declared.entries.Act.TheVariants.{Call, Answer, Offer as MakeOffer, Settle, Leave, Back}
+use Rattle.mpi_base.specs.declared.entries.Act.TheVariants.{Call, Answer, Deliver, Offer as MakeOffer, Settle, Leave, Back}
 use Rattle.mpi_base.specs.declared.entries.Choice.{Choice}
 use Rattle.mpi_base.specs.declared.entries.Entry.{Entry}
 use Rattle.mpi_law.specs.declared.setting.Setting.{Setting}
@@ -505,6 +505,7 @@ solo_step s w g scripts c single alone j solo may =
         let b = two (nat_lt t 8) (is_idle (thread_at (rank_at w 0) t).waits && is_built op) e in
         call t op h (two (is_idle (thread_at (rank_at w 0) t).waits) (is_built op) b.1).0
     act (Answer t) e h = answer t (two (nat_lt t 8) (is_answerable (rank_at w 0) (thread_at (rank_at w 0) t).waits) e).1
+    act (Deliver from) e h = absurd (cc (e))
     act (MakeOffer key) e h = offer key (stage_of (rank_at w 0).opened key) refl e
     act (Leave c) e h = solo_leave scripts (rank_at w 0) c solo (row_at (rank_at w 0).comms c) refl e
     act (Back c) e h = solo_back scripts (rank_at w 0) c solo (row_at (rank_at w 0).comms c) refl e

@@ -6,7 +6,7 @@ ghost use Rattle.std.specs.Prelude.{◌≡◌, ◌<◌, ◌≤◌, ◌++◌, ◌
 ghost use Rattle.mpi_base.specs.declared.entries.Entry.{Entry};
 ghost use Rattle.mpi_base.specs.declared.keys.Key.{Key};
 ghost use Rattle.mpi_base.specs.declared.ops.Op.{Op};
-ghost use Rattle.mpi_base.specs.declared.ops.Reply.{Reply};
+ghost use Rattle.mpi_base.specs.declared.replies.Reply.{Reply};
 ghost use Rattle.mpi_law.specs.declared.setting.Setting.{Setting};
 ghost use Rattle.mpi_law.specs.ScriptLists.{AllScripts, next_op, script_of};
 ghost use Rattle.mpi_law.specs.Registry.{Registry, Event, Calls, Picks, Backs, Replies, Allowed, IsRegistryRun, LiveApart, registry_opening, registry_after, thread_of};

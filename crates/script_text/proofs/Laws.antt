@@ -44,6 +44,7 @@ plain_tokens (Pset s p g) h = (refl, (plain_name s h.0, (plain_pset_name p h.1, 
 plain_tokens (Create g t c) h = (refl, (plain_name g h.0, (plain_quoted t h.1, (refl, (plain_name c h.2, tt)))))
 plain_tokens (Dup c d) h = (refl, (plain_name c h.0, (refl, (plain_name d h.1, tt))))
 plain_tokens (Free c) h = (refl, (plain_name c h, tt))
+plain_tokens _ h = absurd h
 
 -- the tokens of an operation's line
 line_again : (op : Op) → IsOp op → tokens_in (line_of op) ≡ tokens_of op
@@ -52,6 +53,7 @@ line_again (Pset s p g) h = let q = plain_tokens (Pset s p g) h in tokens_again 
 line_again (Create g t c) h = let p = plain_tokens (Create g t c) h in tokens_again _ _ p.0 p.1
 line_again (Dup c d) h = let p = plain_tokens (Dup c d) h in tokens_again _ _ p.0 p.1
 line_again (Free c) h = let p = plain_tokens (Free c) h in tokens_again _ _ p.0 p.1
+line_again _ h = absurd h
 
 -- nothing at the end
 append_nil : {A : Type 0} (xs : List A) → xs ++ [] ≡ xs

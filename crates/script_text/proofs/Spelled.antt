@@ -232,3 +232,4 @@ op_again (Create g t c) ts h =
     rw (name_again g (quoted_text t ∷ codes "->" ∷ c ∷ ts) h.0, tag_again t (codes "->" ∷ c ∷ ts) h.1, target_again c ts h.2) refl
 op_again (Dup c d) ts h = rw (name_again c (codes "->" ∷ d ∷ ts) h.0, target_again d ts h.1) refl
 op_again (Free c) ts h = rw (name_again c ts h) refl
+op_again _ ts h = absurd h

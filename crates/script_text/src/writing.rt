@@ -1,7 +1,7 @@
 //! Operations, written.
-ghost use Rattle.std.specs.Prelude.{◌≡◌, ◌≤◌, ◌+◌, ◌++◌, codes, length};
+ghost use Rattle.std.specs.Prelude.{◌≡◌, ◌≤◌, ◌+◌, ◌++◌, true, codes, length};
 ghost use Rattle.mpi_base.specs.Texts.{IsName, IsTag};
-ghost use Rattle.script_text.specs.Spelling.{IsOp, line_of, quoted_text};
+ghost use Rattle.script_text.specs.Spelling.{IsOp, is_spelled, line_of, quoted_text};
 
 use arrayvec::ArrayVec;
 use mpi_base::{Name, Op, StringTag};
@@ -42,6 +42,7 @@ fn put_target(out: &mut Line, target: &Name)
 
 /// Adds the line of an operation, at most 1024 bytes.
 pub fn write_op(op: &Op, out: &mut Line)
+    requires spelled { is_spelled op.now ≡ true }
     requires room { length out.old.items + 1024 ≤ 2048 }
     ensures added { out.new.items ≡ out.old.items ++ line_of op.now }
     ensures short { length out.new.items ≤ length out.old.items + 1024 }
@@ -75,5 +76,6 @@ pub fn write_op(op: &Op, out: &mut Line)
             put(out, b"free ");
             put(out, comm.bytes());
         }
+        _ => unreachable!(),
     }
 }

@@ -1,5 +1,11 @@
-use Rattle.mpisess.proofs.Firsts.{offer_first, leave_first, back_first, call_first, none_first, if_some, if_none}
+use Rattle.mpisess.proofs.Firsts.{answer_first, settle_first, offer_first, leave_first, back_first, call_first, none_first, if_some, if_none}
 use Rattle.mpisess.proofs.run.next_act.Goals as goal
+
+pub returns-in-Some-clause-found : goal.returns-in-Some-clause-found
+returns-in-Some-clause-found c = answer_first _ _ _ c.in-Some.ensures.found
+
+pub returns-in-Some-next-clause-found : goal.returns-in-Some-next-clause-found
+returns-in-Some-next-clause-found c = settle_first _ _ _ c.in-Some-next.ensures.found c.in_default.ensures.none
 
 pub returns-in-Some-next-2-clause-found : goal.returns-in-Some-next-2-clause-found
 returns-in-Some-next-2-clause-found c = offer_first _ _ _ c.in-Some-next-2.ensures.found c.in_default.ensures.none c.in_default-next.ensures.none
