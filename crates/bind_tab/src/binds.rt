@@ -1,0 +1,111 @@
+//! The table of names.
+ghost use Rattle.std.specs.Prelude.{◌≡◌, ◌≤◌, ◌+◌, not, is_some, if◌then◌else◌, [], Some, OnOk, option_copied};
+ghost use Rattle.std.specs.Bool.{OnFalse, OnTrue};
+ghost use Rattle.local_law.specs.Names.{bound_of, bind, rebind, unbind, AreDistinct};
+ghost use Rattle.bind_tab.specs.Rows.{unbind_session, is_of};
+
+use crate::bound::Bound;
+use indexmap::IndexMap;
+use mpi_base::{Name, OutOfMemory};
+use session_tab::SessionId;
+use std::alloc::Global;
+use std::marker::Model;
+
+/// The names of a rank, and what each is bound to. Names are distinct.
+#[derive(Drop)]
+pub struct Binds {
+    names: IndexMap<Name, Bound>,
+}
+
+impl Model for Binds {
+    ghost use Rattle.indexmap.specs.IndexMap.{spare};
+    ghost use Rattle.local_law.specs.Names.{AreDistinct};
+    ghost use Rattle.bind_tab.specs.Rows.{Table};
+
+    ghost Value = { Table };
+
+    ghost view = { λ b. record { rows = b.names.entries; spare = spare b.names } };
+
+    ghost invariant = { λ b. AreDistinct b.names.entries };
+}
+
+impl Binds {
+    /// No name.
+    pub fn none(alloc: Global) -> Binds
+        ensures { result.rows ≡ [] }
+    {
+        Binds {
+            names: IndexMap::new(alloc),
+        }
+    }
+
+    /// Makes room for one name more. The names stay, whatever it answers.
+    pub fn reserve(&mut self) -> Result<(), OutOfMemory>
+        ensures ok { OnOk result (1 ≤ self.new.spare) }
+        ensures rows { self.new.rows ≡ self.old.rows }
+        ensures spare { self.old.spare ≤ self.new.spare }
+    {
+        self.names.reserve(1)?;
+        Ok(())
+    }
+
+    /// Reserves a name. There is room for it. False, with nothing changed, exactly where the name is
+    /// bound or reserved.
+    pub fn hold(&mut self, name: Name) -> bool
+        requires { 1 ≤ self.old.spare }
+        ensures when { result ≡ not (is_some (bound_of self.old.rows name)) }
+        ensures rows { self.new.rows ≡ (if result then bind self.old.rows name Bound.Reserved else self.old.rows) }
+        ensures held { OnTrue result (bound_of self.new.rows name ≡ Some Bound.Reserved) }
+        ensures spare { self.old.spare ≤ self.new.spare + 1 }
+        ensures refused { OnFalse result (self.new ≡ self.old) }
+    {
+        if self.names.contains_key(&name) {
+            return false;
+        }
+        self.names.insert(name, Bound::Reserved).unwrap();
+        true
+    }
+
+    /// Binds a name that is reserved. All other names stay.
+    pub fn fill(&mut self, name: &Name, what: Bound)
+        requires { bound_of self.old.rows name.now ≡ Some Bound.Reserved }
+        ensures rows { self.new.rows ≡ rebind self.old.rows name.now what }
+        ensures spare { self.old.spare ≤ self.new.spare }
+    {
+        if let Some(bound) = self.names.get_mut(name) {
+            *bound = what;
+        }
+    }
+
+    /// Takes a name out, and gives what it was bound to; None exactly where it is not in the table. All
+    /// other names stay.
+    pub fn unbind(&mut self, name: &Name) -> Option<Bound>
+        ensures value { result ≡ bound_of self.old.rows name.now }
+        ensures rows { self.new.rows ≡ unbind self.old.rows name.now }
+        ensures spare { self.old.spare ≤ self.new.spare }
+    {
+        self.names.shift_remove(name)
+    }
+
+    /// Takes out each name that is bound to this session, or to a group or a communicator of it. All
+    /// other names stay, those of requests and reserved ones too.
+    pub fn unbind_session(&mut self, session: SessionId)
+        ensures rows { self.new.rows ≡ unbind_session self.old.rows session }
+        ensures spare { self.old.spare ≤ self.new.spare }
+    {
+        self.names.retain(
+            |_name: &Name, bound: &mut Bound| -> bool
+                ensures { (result ≡ not (is_of session bound.old)) × (bound.new ≡ bound.old) }
+            { !bound.is_of(session) },
+        );
+    }
+
+    /// What a name is bound to, `Reserved` where it is reserved; None exactly where it is not in the
+    /// table.
+    pub fn find(&self, name: &Name) -> Option<&Bound>
+        ensures value { option_copied result ≡ bound_of self.now.rows name.now }
+        ensures form { AreDistinct self.now.rows }
+    {
+        self.names.get(name)
+    }
+}

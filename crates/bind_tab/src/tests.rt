@@ -1,0 +1,66 @@
+//! Names that are held, bound and taken out.
+use crate::{Binds, Bound};
+use mpi_base::{Members, Name};
+use mpi_group::Group;
+use session_tab::SessionId;
+use std::process::Abort;
+
+fn name(rt: &impl Abort, text: &[u8]) -> Name {
+    Name::new(text).expect(rt, "a name")
+}
+
+fn pair(rt: &impl Abort) -> Group {
+    let mut members = Members::none();
+    assert!(rt; members.push(3) && members.push(1));
+    Group::of(members)
+}
+
+fn bind(rt: &impl Abort, binds: &mut Binds, text: &[u8], what: Bound) {
+    let name = name(rt, text);
+    binds.reserve().expect(rt, "memory");
+    assert!(rt; binds.hold(name.copy()));
+    binds.fill(&name, what);
+}
+
+#[test]
+fn a_name_is_held_then_bound_then_free(rt: HostRuntime) {
+    let mut binds = Binds::none(rt.alloc());
+    let session = SessionId { slot: 0, serial: 1 };
+    let name = name(&rt, b"g");
+    assert!(rt; binds.find(&name).is_none());
+    binds.reserve().expect(&rt, "memory");
+    assert!(rt; binds.hold(name.copy()));
+    assert!(rt; binds.find(&name) == Some(&Bound::Reserved));
+    binds.fill(&name, Bound::Group(pair(&rt), session));
+    assert!(rt; binds.find(&name) == Some(&Bound::Group(pair(&rt), session)));
+    binds.reserve().expect(&rt, "memory");
+    assert!(rt; !binds.hold(name.copy()));
+    assert!(rt; binds.unbind(&name) == Some(Bound::Group(pair(&rt), session)));
+    assert!(rt; binds.unbind(&name).is_none());
+    binds.reserve().expect(&rt, "memory");
+    assert!(rt; binds.hold(name));
+}
+
+#[test]
+fn the_end_of_a_session_takes_out_what_is_of_it(rt: HostRuntime) {
+    let mut binds = Binds::none(rt.alloc());
+    let old = SessionId { slot: 0, serial: 1 };
+    let new = SessionId { slot: 0, serial: 2 };
+    bind(&rt, &mut binds, b"s", Bound::Session(old));
+    bind(&rt, &mut binds, b"t", Bound::Session(new));
+    bind(&rt, &mut binds, b"g", Bound::Group(pair(&rt), old));
+    bind(&rt, &mut binds, b"h", Bound::Group(pair(&rt), new));
+    bind(&rt, &mut binds, b"c", Bound::Comm(1, old));
+    bind(&rt, &mut binds, b"d", Bound::Comm(2, new));
+    bind(&rt, &mut binds, b"r", Bound::Request(1));
+    bind(&rt, &mut binds, b"n", Bound::Reserved);
+    binds.unbind_session(old);
+    for gone in [b"s", b"g", b"c"] {
+        assert!(rt; binds.find(&name(&rt, gone.as_slice())).is_none());
+    }
+    assert!(rt; binds.find(&name(&rt, b"t")) == Some(&Bound::Session(new)));
+    assert!(rt; binds.find(&name(&rt, b"h")) == Some(&Bound::Group(pair(&rt), new)));
+    assert!(rt; binds.find(&name(&rt, b"d")) == Some(&Bound::Comm(2, new)));
+    assert!(rt; binds.find(&name(&rt, b"r")) == Some(&Bound::Request(1)));
+    assert!(rt; binds.find(&name(&rt, b"n")) == Some(&Bound::Reserved));
+}

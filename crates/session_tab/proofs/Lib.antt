@@ -1,0 +1,3 @@
+mod Examples
+pub mod IdLists
+pub mod SlotFacts

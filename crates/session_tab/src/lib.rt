@@ -1,0 +1,10 @@
+//! The sessions of a rank (MPI 4.0, 11.3.1).
+#![tactic(auto)]
+
+mod ids;
+mod sessions;
+#[cfg(test)]
+mod tests;
+
+pub use ids::SessionId;
+pub use sessions::Sessions;
