@@ -1,7 +1,5 @@
 -- The names of a rank, as contracts see them.
-use Rattle.std.specs.Prelude.{ℕ, Bool, Option}
-use Rattle.session_tab.specs.declared.ids.SessionId.{SessionId}
-use Rattle.session_tab.specs.Ids.{same_id}
+use Rattle.std.specs.Prelude.{ℕ, ◌==◌, Bool, Option}
 use Rattle.local_law.specs.Names.{Rows, unbind_all, left_of}
 use Rattle.local_law.specs.Objects as objects
 use Rattle.bind_tab.specs.declared.bound.Bound.{Bound}
@@ -9,25 +7,25 @@ use Rattle.bind_tab.specs.declared.bound.Bound.TheVariants.{Reserved, Session, G
 
 -- the names, each with what it is bound to, in the order in which they were first held, and for how many there is room
 pub record Table : Type 0 where
-  pub rows : Rows Bound
+  pub rows : Rows (objects.Bound ℕ ℕ)
   pub spare : ℕ
 
--- what a name is bound to, as the objects of a rank have it: a session by its id, a communicator by its context
-abbrev pub seen : Bound → objects.Bound SessionId ℕ
+-- what a name is bound to, as the objects of a rank have it: a session by its serial, a communicator by its context
+abbrev pub seen : Bound → objects.Bound ℕ ℕ
 seen Reserved = objects.Reserved
-seen (Session id) = objects.Session id
-seen (Group members id) = objects.Group members id
-seen (Comm ctx id) = objects.Comm ctx id
+seen (Session id) = objects.Session id.serial
+seen (Group members serial) = objects.Group members serial
+seen (Comm ctx serial) = objects.Comm ctx serial
 seen (Request number) = objects.Request number
 
--- whether it is this session, or a group or a communicator of it
-abbrev pub is_of : SessionId → Bound → Bool
-is_of session bound = objects.is_of (λ id. same_id id session) (seen bound)
+-- whether it is the session with a serial, or a group or a communicator of it
+abbrev pub is_of : ℕ → objects.Bound ℕ ℕ → Bool
+is_of serial bound = objects.is_of (λ s. s == serial) bound
 
 -- without each name that is bound to a session, or to a group or a communicator of it
-abbrev pub unbind_session : Rows Bound → SessionId → Rows Bound
-unbind_session rows session = unbind_all rows (is_of session)
+abbrev pub unbind_session : Rows (objects.Bound ℕ ℕ) → ℕ → Rows (objects.Bound ℕ ℕ)
+unbind_session rows serial = unbind_all rows (is_of serial)
 
 -- what is left of this where the session ends
-abbrev pub without : SessionId → Option Bound → Option Bound
-without session bound = left_of (is_of session) bound
+abbrev pub without : ℕ → Option (objects.Bound ℕ ℕ) → Option (objects.Bound ℕ ℕ)
+without serial bound = left_of (is_of serial) bound

@@ -1,13 +1,13 @@
 //! The table of names.
-ghost use Rattle.std.specs.Prelude.{◌≡◌, ◌≤◌, ◌+◌, not, is_some, if◌then◌else◌, [], Some, OnOk, option_copied};
+ghost use Rattle.std.specs.Prelude.{◌≡◌, ◌≤◌, ◌+◌, not, is_some, if◌then◌else◌, [], None, Some, OnOk, option_copied, option_map};
 ghost use Rattle.std.specs.Bool.{OnFalse, OnTrue};
 ghost use Rattle.local_law.specs.Names.{bound_of, bind, rebind, unbind, AreDistinct};
-ghost use Rattle.bind_tab.specs.Rows.{unbind_session, is_of};
+ghost use Rattle.local_law.specs.Objects as objects;
+ghost use Rattle.bind_tab.specs.Rows.{unbind_session, is_of, seen};
 
 use crate::bound::Bound;
 use indexmap::IndexMap;
 use mpi_base::{Name, OutOfMemory};
-use session_tab::SessionId;
 use std::alloc::Global;
 use std::marker::Model;
 
@@ -19,12 +19,12 @@ pub struct Binds {
 
 impl Model for Binds {
     ghost use Rattle.indexmap.specs.IndexMap.{spare};
-    ghost use Rattle.local_law.specs.Names.{AreDistinct};
-    ghost use Rattle.bind_tab.specs.Rows.{Table};
+    ghost use Rattle.local_law.specs.Names.{AreDistinct, renamed_rows};
+    ghost use Rattle.bind_tab.specs.Rows.{Table, seen};
 
     ghost Value = { Table };
 
-    ghost view = { λ b. record { rows = b.names.entries; spare = spare b.names } };
+    ghost view = { λ b. record { rows = renamed_rows seen b.names.entries; spare = spare b.names } };
 
     ghost invariant = { λ b. AreDistinct b.names.entries };
 }
@@ -54,22 +54,32 @@ impl Binds {
     pub fn hold(&mut self, name: Name) -> bool
         requires { 1 ≤ self.old.spare }
         ensures when { result ≡ not (is_some (bound_of self.old.rows name)) }
-        ensures rows { self.new.rows ≡ (if result then bind self.old.rows name Bound.Reserved else self.old.rows) }
-        ensures held { OnTrue result (bound_of self.new.rows name ≡ Some Bound.Reserved) }
+        ensures rows { self.new.rows ≡ (if result then bind self.old.rows name objects.Reserved else self.old.rows) }
+        ensures held { OnTrue result (bound_of self.new.rows name ≡ Some objects.Reserved) }
         ensures spare { self.old.spare ≤ self.new.spare + 1 }
         ensures refused { OnFalse result (self.new ≡ self.old) }
     {
-        if self.names.contains_key(&name) {
+        if self.find(&name).is_some() {
             return false;
         }
-        self.names.insert(name, Bound::Reserved).unwrap();
+        self.bind(name, Bound::Reserved);
         true
     }
 
-    /// Binds a name that is reserved. All other names stay.
+    /// Binds a name that is neither bound nor reserved. There is room for it.
+    pub fn bind(&mut self, name: Name, what: Bound)
+        requires room { 1 ≤ self.old.spare }
+        requires free { bound_of self.old.rows name ≡ None }
+        ensures rows { self.new.rows ≡ bind self.old.rows name (seen what) }
+        ensures spare { self.old.spare ≤ self.new.spare + 1 }
+    {
+        self.names.insert(name, what).unwrap();
+    }
+
+    /// Binds a name that is bound or reserved to something else; without such a name nothing changes.
+    /// All other names stay.
     pub fn fill(&mut self, name: &Name, what: Bound)
-        requires { bound_of self.old.rows name.now ≡ Some Bound.Reserved }
-        ensures rows { self.new.rows ≡ rebind self.old.rows name.now what }
+        ensures rows { self.new.rows ≡ rebind self.old.rows name.now (seen what) }
         ensures spare { self.old.spare ≤ self.new.spare }
     {
         if let Some(bound) = self.names.get_mut(name) {
@@ -80,22 +90,22 @@ impl Binds {
     /// Takes a name out, and gives what it was bound to; None exactly where it is not in the table. All
     /// other names stay.
     pub fn unbind(&mut self, name: &Name) -> Option<Bound>
-        ensures value { result ≡ bound_of self.old.rows name.now }
+        ensures value { option_map seen result ≡ bound_of self.old.rows name.now }
         ensures rows { self.new.rows ≡ unbind self.old.rows name.now }
         ensures spare { self.old.spare ≤ self.new.spare }
     {
         self.names.shift_remove(name)
     }
 
-    /// Takes out each name that is bound to this session, or to a group or a communicator of it. All
-    /// other names stay, those of requests and reserved ones too.
-    pub fn unbind_session(&mut self, session: SessionId)
+    /// Takes out each name that is bound to the session with this serial, or to a group or a
+    /// communicator of it. All other names stay, those of requests and reserved ones too.
+    pub fn unbind_session(&mut self, session: u64)
         ensures rows { self.new.rows ≡ unbind_session self.old.rows session }
         ensures spare { self.old.spare ≤ self.new.spare }
     {
         self.names.retain(
             |_name: &Name, bound: &mut Bound| -> bool
-                ensures { (result ≡ not (is_of session bound.old)) × (bound.new ≡ bound.old) }
+                ensures { (result ≡ not (is_of session (seen bound.old))) × (bound.new ≡ bound.old) }
             { !bound.is_of(session) },
         );
     }
@@ -103,7 +113,7 @@ impl Binds {
     /// What a name is bound to, `Reserved` where it is reserved; None exactly where it is not in the
     /// table.
     pub fn find(&self, name: &Name) -> Option<&Bound>
-        ensures value { option_copied result ≡ bound_of self.now.rows name.now }
+        ensures value { option_map seen (option_copied result) ≡ bound_of self.now.rows name.now }
         ensures form { AreDistinct self.now.rows }
     {
         self.names.get(name)

@@ -31,14 +31,15 @@ fn a_name_is_held_then_bound_then_free(rt: HostRuntime) {
     binds.reserve().expect(&rt, "memory");
     assert!(rt; binds.hold(name.copy()));
     assert!(rt; binds.find(&name) == Some(&Bound::Reserved));
-    binds.fill(&name, Bound::Group(pair(&rt), session));
-    assert!(rt; binds.find(&name) == Some(&Bound::Group(pair(&rt), session)));
+    binds.fill(&name, Bound::Group(pair(&rt), session.serial));
+    assert!(rt; binds.find(&name) == Some(&Bound::Group(pair(&rt), session.serial)));
     binds.reserve().expect(&rt, "memory");
     assert!(rt; !binds.hold(name.copy()));
-    assert!(rt; binds.unbind(&name) == Some(Bound::Group(pair(&rt), session)));
+    assert!(rt; binds.unbind(&name) == Some(Bound::Group(pair(&rt), session.serial)));
     assert!(rt; binds.unbind(&name).is_none());
     binds.reserve().expect(&rt, "memory");
-    assert!(rt; binds.hold(name));
+    binds.bind(name.copy(), Bound::Request(7));
+    assert!(rt; binds.find(&name) == Some(&Bound::Request(7)));
 }
 
 #[test]
@@ -48,19 +49,19 @@ fn the_end_of_a_session_takes_out_what_is_of_it(rt: HostRuntime) {
     let new = SessionId { slot: 0, serial: 2 };
     bind(&rt, &mut binds, b"s", Bound::Session(old));
     bind(&rt, &mut binds, b"t", Bound::Session(new));
-    bind(&rt, &mut binds, b"g", Bound::Group(pair(&rt), old));
-    bind(&rt, &mut binds, b"h", Bound::Group(pair(&rt), new));
-    bind(&rt, &mut binds, b"c", Bound::Comm(1, old));
-    bind(&rt, &mut binds, b"d", Bound::Comm(2, new));
+    bind(&rt, &mut binds, b"g", Bound::Group(pair(&rt), old.serial));
+    bind(&rt, &mut binds, b"h", Bound::Group(pair(&rt), new.serial));
+    bind(&rt, &mut binds, b"c", Bound::Comm(1, old.serial));
+    bind(&rt, &mut binds, b"d", Bound::Comm(2, new.serial));
     bind(&rt, &mut binds, b"r", Bound::Request(1));
     bind(&rt, &mut binds, b"n", Bound::Reserved);
-    binds.unbind_session(old);
+    binds.unbind_session(old.serial);
     for gone in [b"s", b"g", b"c"] {
         assert!(rt; binds.find(&name(&rt, gone.as_slice())).is_none());
     }
     assert!(rt; binds.find(&name(&rt, b"t")) == Some(&Bound::Session(new)));
-    assert!(rt; binds.find(&name(&rt, b"h")) == Some(&Bound::Group(pair(&rt), new)));
-    assert!(rt; binds.find(&name(&rt, b"d")) == Some(&Bound::Comm(2, new)));
+    assert!(rt; binds.find(&name(&rt, b"h")) == Some(&Bound::Group(pair(&rt), new.serial)));
+    assert!(rt; binds.find(&name(&rt, b"d")) == Some(&Bound::Comm(2, new.serial)));
     assert!(rt; binds.find(&name(&rt, b"r")) == Some(&Bound::Request(1)));
     assert!(rt; binds.find(&name(&rt, b"n")) == Some(&Bound::Reserved));
 }

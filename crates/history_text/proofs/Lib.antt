@@ -1,5 +1,7 @@
 pub mod Joined
-pub mod Again
-pub mod Entries
+pub mod Operations
+pub mod Whole
+pub mod Unique
+pub mod Found
 pub mod Plain
-pub mod Examples
+pub mod PlainEntries

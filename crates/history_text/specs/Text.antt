@@ -1,225 +1,154 @@
--- The text of an entry. Operations that are not spelled yet, deliveries, matches and some replies have none so far.
-use Rattle.std.specs.Prelude.{◌≡◌, ℕ, ◌<◌, ◌^◌, ◌&&◌, Bool, true, false, List, [], ◌∷◌, ◌++◌, map, Option, Some, None, codes, decimal}
-use Rattle.std.specs.Option.{is_some, is_none}
-use Rattle.std.specs.List.{flat_map, join_with_byte}
-use Rattle.mpi_base.specs.Texts.{IsTag}
-use Rattle.mpi_base.specs.MemberLists.{AreRanks}
-use Rattle.mpi_base.specs.Classes.{text_of_lem}
-use Rattle.mpi_base.specs.declared.keys.Kind.{Kind}
-use Rattle.mpi_base.specs.declared.keys.Kind.TheVariants as kind
-use Rattle.mpi_base.specs.declared.keys.Key.{Key}
+-- The text of an entry, and well-formed entries.
+use Rattle.std.specs.Prelude.{◌≡◌, ℕ, ◌≤◌, ◌==◌, Bool, List, [], ◌∷◌, ◌++◌, Option, Some, None, codes, decimal}
+use Rattle.std.specs.List.{flat_map, list_any}
+use Rattle.mpi_base.specs.declared.messages.Matched.{Matched}
 use Rattle.mpi_base.specs.declared.entries.Act.{Act}
 use Rattle.mpi_base.specs.declared.entries.Act.TheVariants.{Call, Answer, Deliver, Offer, Settle, Leave, Back}
+use Rattle.mpi_base.specs.declared.entries.Brief.{Brief}
 use Rattle.mpi_base.specs.declared.entries.Said.{Said}
-use Rattle.mpi_base.specs.declared.entries.Said.TheVariants.{Own, Zero, Ready, Retry, Picked, Exhausted, Shared}
 use Rattle.mpi_base.specs.declared.replies.Reply.{Reply}
-use Rattle.mpi_base.specs.declared.replies.Reply.TheVariants.{Fine, Refused, Null, Group, Comm}
 use Rattle.mpi_base.specs.declared.entries.Entry.{Entry}
-use Rattle.script_text.specs.Spelling.{in_line, is_spelled, quoted_text, tokens_of, IsOp}
+use Rattle.token_text.specs.Words.{FitsIf}
+use Rattle.script_text.specs.Tokens.{in_line}
+use Rattle.script_text.specs.Spelling.{tokens_of, IsOp}
+use Rattle.entry_text.specs.Labels.{most_8, most_16, most_64}
+use Rattle.entry_text.specs.Keys.{key_tokens, IsKey}
+use Rattle.entry_text.specs.Said.{said_tokens, IsOffered, IsSettled}
+use Rattle.entry_text.specs.Briefs.{brief_tokens, IsBrief}
+use Rattle.entry_text.specs.Replies.{reply_tokens, IsReply, match_tokens, IsMatched}
 
--- ranks between brackets, with a comma between two
-abbrev pub list_text : List ℕ → List ℕ
-list_text members = 91 ∷ (join_with_byte 44 (map decimal members) ++ 93 ∷ [])
+-- the word of a step
+abbrev pub act_text : Act → List ℕ
+act_text (Call thread op) = codes "call"
+act_text (Answer thread) = codes "answer"
+act_text (Deliver from) = codes "deliver"
+act_text (Offer k) = codes "offer"
+act_text (Settle k) = codes "settle"
+act_text (Leave c) = codes "leave"
+act_text (Back c) = codes "back"
 
--- what a key with a parent shows behind its word
-abbrev pub parent_tokens : Key → List (List ℕ)
-parent_tokens k = decimal k.parent ∷ decimal k.number ∷ list_text k.members ∷ []
+-- the tokens of a value, and none where there is no value
+abbrev pub tokens_if : {A : Type 0} → (A → List (List ℕ)) → Option A → List (List ℕ)
+tokens_if tokens None = []
+tokens_if tokens (Some x) = tokens x
 
--- the word of a kind, and what a key of this kind shows
-abbrev pub kind_tokens : Kind → Key → List (List ℕ)
-kind_tokens kind.From k = codes "from" ∷ quoted_text k.tag ∷ list_text k.members ∷ []
-kind_tokens kind.Group k = codes "group" ∷ parent_tokens k
-kind_tokens kind.Dup k = codes "dup" ∷ parent_tokens k
-kind_tokens kind.Split k = codes "split" ∷ parent_tokens k
-kind_tokens kind.Share k = codes "share" ∷ parent_tokens k
+-- what a step shows behind its word; a delivery shows the packet
+abbrev pub behind_act : Act → Option Brief → List (List ℕ)
+behind_act (Call thread op) packet = decimal thread ∷ tokens_of op
+behind_act (Answer thread) packet = decimal thread ∷ []
+behind_act (Deliver from) packet = decimal from ∷ tokens_if brief_tokens packet
+behind_act (Offer k) packet = key_tokens k
+behind_act (Settle k) packet = key_tokens k
+behind_act (Leave c) packet = decimal c ∷ []
+behind_act (Back c) packet = decimal c ∷ []
 
--- the tokens of a key
-abbrev pub key_tokens : Key → List (List ℕ)
-key_tokens k = kind_tokens k.kind k
-
--- the tokens of a step
-abbrev pub act_tokens : Act → List (List ℕ)
-act_tokens (Call thread op) = codes "call" ∷ decimal thread ∷ tokens_of op
-act_tokens (Answer thread) = codes "answer" ∷ decimal thread ∷ []
-act_tokens (Deliver from) = []
-act_tokens (Offer k) = codes "offer" ∷ key_tokens k
-act_tokens (Settle k) = codes "settle" ∷ key_tokens k
-act_tokens (Leave c) = codes "leave" ∷ decimal c ∷ []
-act_tokens (Back c) = codes "back" ∷ decimal c ∷ []
-
--- a number behind a label
-abbrev pub labelled_text : List ℕ → ℕ → List ℕ
-labelled_text label number = label ++ decimal number
-
--- the tokens of what was said
-abbrev pub said_tokens : Said → List (List ℕ)
-said_tokens Own = codes "own" ∷ []
-said_tokens Zero = codes "zero" ∷ []
-said_tokens Ready = codes "ready" ∷ []
-said_tokens Retry = codes "retry" ∷ []
-said_tokens (Picked c) = codes "pick" ∷ labelled_text (codes "ctx=") c ∷ []
-said_tokens Exhausted = codes "pick" ∷ codes "exhausted" ∷ []
-said_tokens Shared = codes "shared" ∷ []
-
--- the same behind its mark, and nothing where nothing was said
+-- what was said, behind its mark
 abbrev pub said_part : Option Said → List (List ℕ)
-said_part None = []
-said_part (Some s) = codes "#" ∷ said_tokens s
+said_part s = tokens_if (λ x. codes "#" ∷ said_tokens x) s
 
--- how many messages were dropped, behind a mark, and nothing where no count is there
+-- which receive took which message, behind its mark
+abbrev pub matched_part : Option Matched → List (List ℕ)
+matched_part m = tokens_if (λ x. codes "#" ∷ match_tokens x) m
+
+-- how many messages were dropped, behind its mark
 abbrev pub dropped_part : Option ℕ → List (List ℕ)
-dropped_part None = []
-dropped_part (Some n) = codes "#" ∷ codes "drop" ∷ decimal n ∷ []
+dropped_part d = tokens_if (λ n. codes "#" ∷ codes "drop" ∷ decimal n ∷ []) d
 
--- the tokens of a reply
-abbrev pub reply_tokens : Reply → List (List ℕ)
-reply_tokens Fine = codes "ok" ∷ []
-reply_tokens (Refused class) = codes "err" ∷ text_of_lem class ∷ []
-reply_tokens Null = codes "null" ∷ []
-reply_tokens (Group members) = codes "group" ∷ list_text members ∷ []
-reply_tokens (Comm c r s) = codes "comm" ∷ labelled_text (codes "ctx=") c ∷ labelled_text (codes "rank=") r ∷ labelled_text (codes "size=") s ∷ []
-reply_tokens _ = []
-
--- the same behind its arrow, and nothing where there is no reply
+-- the reply, behind its arrow
 abbrev pub reply_part : Option Reply → List (List ℕ)
-reply_part None = []
-reply_part (Some r) = codes "=>" ∷ reply_tokens r
+reply_part r = tokens_if (λ x. codes "=>" ∷ reply_tokens x) r
 
--- the tokens of an entry: the rank, the step, what was said, what was dropped and the reply
+-- what stands behind the word of an entry's step
+abbrev pub behind_word : Entry → List (List ℕ)
+behind_word e = behind_act e.choice.act e.brief ++ (said_part e.said ++ (matched_part e.matched ++ (dropped_part e.dropped ++ reply_part e.reply)))
+
+-- the tokens of an entry: the rank, the step, what was said, the match, what was dropped, and the reply
 abbrev pub entry_tokens : Entry → List (List ℕ)
-entry_tokens e = decimal e.choice.rank ∷ (act_tokens e.choice.act ++ (said_part e.said ++ (dropped_part e.dropped ++ reply_part e.reply)))
+entry_tokens e = decimal e.choice.rank ∷ act_text e.choice.act ∷ behind_word e
 
 -- the line of an entry, without its line feed
 abbrev pub entry_text : Entry → List ℕ
 entry_text e = in_line (entry_tokens e)
 
--- whether a step has a text
-abbrev pub act_has_text : Act → Bool
-act_has_text (Call thread op) = is_spelled op
-act_has_text (Answer thread) = true
-act_has_text (Deliver from) = false
-act_has_text (Offer k) = true
-act_has_text (Settle k) = true
-act_has_text (Leave c) = true
-act_has_text (Back c) = true
-
--- whether a reply has a text
-abbrev pub reply_has_text : Option Reply → Bool
-reply_has_text None = true
-reply_has_text (Some Fine) = true
-reply_has_text (Some (Refused class)) = true
-reply_has_text (Some Null) = true
-reply_has_text (Some (Group members)) = true
-reply_has_text (Some (Comm c r s)) = true
-reply_has_text _ = false
-
--- whether an entry has a text that tells all of it
-abbrev pub has_text : Entry → Bool
-has_text e = act_has_text e.choice.act && (reply_has_text e.reply && (is_none e.brief && is_none e.matched))
-
 -- a line for each entry
 abbrev pub journal_text : List Entry → List ℕ
 journal_text es = flat_map (λ e. entry_text e ++ 10 ∷ []) es
 
--- what the text of a key does not show is 0 or empty
-abbrev pub ShowsAll : Kind → Key → Type 0
-ShowsAll kind.From k = (k.parent ≡ 0) × (k.number ≡ 0)
-ShowsAll kind.Group k = k.tag ≡ []
-ShowsAll kind.Dup k = k.tag ≡ []
-ShowsAll kind.Split k = k.tag ≡ []
-ShowsAll kind.Share k = k.tag ≡ []
+-- whether a text has a line feed
+abbrev pub has_line_feed : List ℕ → Bool
+has_line_feed text = list_any (λ b. b == 10) text
 
--- a key whose numbers, tag and members are in their ranges, and whose text shows all of it
-pub record IsKey (k : Key) : Type 0 where
-  pub parent : k.parent < 2 ^ 16
-  pub number : k.number < 2 ^ 64
-  pub tag : IsTag k.tag
-  pub members : AreRanks k.members
-  pub shows_all : ShowsAll k.kind k
-
--- a step with a text, whose numbers and texts are in their ranges
+-- a step whose numbers, operation and key are in their ranges
 abbrev pub IsAct : Act → Type 0
-IsAct (Call thread op) = (thread < 2 ^ 8) × IsOp op
-IsAct (Answer thread) = thread < 2 ^ 8
-IsAct (Deliver from) = ⊥
+IsAct (Call thread op) = (thread ≤ most_8) × IsOp op
+IsAct (Answer thread) = thread ≤ most_8
+IsAct (Deliver from) = from ≤ most_16
 IsAct (Offer k) = IsKey k
 IsAct (Settle k) = IsKey k
-IsAct (Leave c) = c < 2 ^ 16
-IsAct (Back c) = c < 2 ^ 16
+IsAct (Leave c) = c ≤ most_16
+IsAct (Back c) = c ≤ most_16
 
--- a context in its range
-abbrev pub IsSaid : Option Said → Type 0
-IsSaid (Some (Picked c)) = c < 2 ^ 16
-IsSaid _ = Unit {0}
+-- a value is there, and a condition holds of it
+abbrev pub IsThere : {A : Type 0} → (A → Type 0) → Option A → Type 0
+IsThere P None = ⊥
+IsThere P (Some x) = P x
 
--- a count of messages in its range
-abbrev pub IsDropped : Option ℕ → Type 0
-IsDropped (Some n) = n < 2 ^ 64
-IsDropped None = Unit {0}
+-- a delivery has a packet, and no other step has
+abbrev pub HasBrief : Act → Option Brief → Type 0
+HasBrief (Call thread op) packet = packet ≡ None
+HasBrief (Answer thread) packet = packet ≡ None
+HasBrief (Deliver from) packet = IsThere IsBrief packet
+HasBrief (Offer k) packet = packet ≡ None
+HasBrief (Settle k) packet = packet ≡ None
+HasBrief (Leave c) packet = packet ≡ None
+HasBrief (Back c) packet = packet ≡ None
 
--- a reply with a text, whose numbers and members are in their ranges
-abbrev pub IsReply : Option Reply → Type 0
-IsReply None = Unit {0}
-IsReply (Some Fine) = Unit {0}
-IsReply (Some (Refused class)) = Unit {0}
-IsReply (Some Null) = Unit {0}
-IsReply (Some (Group members)) = AreRanks members
-IsReply (Some (Comm c r s)) = (c < 2 ^ 16) × (r < 2 ^ 16) × (s < 2 ^ 16)
-IsReply _ = ⊥
+-- an offer and a settle say something, and no other step does
+abbrev pub HasSaid : Act → Option Said → Type 0
+HasSaid (Call thread op) s = s ≡ None
+HasSaid (Answer thread) s = s ≡ None
+HasSaid (Deliver from) s = s ≡ None
+HasSaid (Offer k) s = IsThere IsOffered s
+HasSaid (Settle k) s = IsThere (IsSettled k.kind) s
+HasSaid (Leave c) s = s ≡ None
+HasSaid (Back c) s = s ≡ None
 
--- an offer owns the mask, or carries no context
-abbrev pub offer_may_say : Said → Bool
-offer_may_say Own = true
-offer_may_say Zero = true
-offer_may_say _ = false
+-- a call and a delivery may bring a receive and a message together, and no other step does
+abbrev pub HasMatch : Act → Option Matched → Type 0
+HasMatch (Call thread op) m = FitsIf IsMatched m
+HasMatch (Answer thread) m = m ≡ None
+HasMatch (Deliver from) m = FitsIf IsMatched m
+HasMatch (Offer k) m = m ≡ None
+HasMatch (Settle k) m = m ≡ None
+HasMatch (Leave c) m = m ≡ None
+HasMatch (Back c) m = m ≡ None
 
--- a settle says anything else
-abbrev pub settle_may_say : Said → Bool
-settle_may_say Own = false
-settle_may_say Zero = false
-settle_may_say _ = true
+-- a give-back tells how many messages it drops, and no other step does
+abbrev pub HasDropped : Act → Option ℕ → Type 0
+HasDropped (Call thread op) d = d ≡ None
+HasDropped (Answer thread) d = d ≡ None
+HasDropped (Deliver from) d = d ≡ None
+HasDropped (Offer k) d = d ≡ None
+HasDropped (Settle k) d = d ≡ None
+HasDropped (Leave c) d = d ≡ None
+HasDropped (Back c) d = IsThere (λ n. n ≤ most_64) d
 
--- whether a step says this: an offer and a settle say something, and no other step does
-abbrev pub may_say : Act → Option Said → Bool
-may_say (Call thread op) said = is_none said
-may_say (Answer thread) said = is_none said
-may_say (Deliver from) said = is_none said
-may_say (Offer k) None = false
-may_say (Offer k) (Some s) = offer_may_say s
-may_say (Settle k) None = false
-may_say (Settle k) (Some s) = settle_may_say s
-may_say (Leave c) said = is_none said
-may_say (Back c) said = is_none said
+-- an answer has a reply, a call may have one, and no other step has
+abbrev pub HasReply : Act → Option Reply → Type 0
+HasReply (Call thread op) r = FitsIf IsReply r
+HasReply (Answer thread) r = IsThere IsReply r
+HasReply (Deliver from) r = r ≡ None
+HasReply (Offer k) r = r ≡ None
+HasReply (Settle k) r = r ≡ None
+HasReply (Leave c) r = r ≡ None
+HasReply (Back c) r = r ≡ None
 
--- whether a step drops this: a give-back tells how many messages it drops, and no other step does
-abbrev pub may_drop : Act → Option ℕ → Bool
-may_drop (Call thread op) dropped = is_none dropped
-may_drop (Answer thread) dropped = is_none dropped
-may_drop (Deliver from) dropped = is_none dropped
-may_drop (Offer k) dropped = is_none dropped
-may_drop (Settle k) dropped = is_none dropped
-may_drop (Leave c) dropped = is_none dropped
-may_drop (Back c) dropped = is_some dropped
-
--- whether a step is replied so: an answer is, a call may be, and no other step is
-abbrev pub may_reply : Act → Option Reply → Bool
-may_reply (Call thread op) reply = true
-may_reply (Answer thread) reply = is_some reply
-may_reply (Deliver from) reply = is_none reply
-may_reply (Offer k) reply = is_none reply
-may_reply (Settle k) reply = is_none reply
-may_reply (Leave c) reply = is_none reply
-may_reply (Back c) reply = is_none reply
-
--- an entry with a text, whose numbers, texts and lists are in their ranges, and whose parts belong together
+-- a well-formed entry: all is in its range, and each step has what belongs to it
 pub record IsEntry (e : Entry) : Type 0 where
-  pub rank : e.choice.rank < 2 ^ 16
+  pub rank : e.choice.rank ≤ most_16
   pub act : IsAct e.choice.act
-  pub brief : e.brief ≡ None
-  pub matched : e.matched ≡ None
-  pub said : IsSaid e.said
-  pub dropped : IsDropped e.dropped
-  pub reply : IsReply e.reply
-  pub says : may_say e.choice.act e.said ≡ true
-  pub drops : may_drop e.choice.act e.dropped ≡ true
-  pub replies : may_reply e.choice.act e.reply ≡ true
+  pub brief : HasBrief e.choice.act e.brief
+  pub said : HasSaid e.choice.act e.said
+  pub matched : HasMatch e.choice.act e.matched
+  pub dropped : HasDropped e.choice.act e.dropped
+  pub reply : HasReply e.choice.act e.reply

@@ -1,9 +1,13 @@
-//! Lines of a journal: the text of each entry.
+//! Lines of a journal: entries read and written.
 #![tactic(auto)]
 
-mod parts;
+mod acts;
+mod ends;
+mod reading;
 #[cfg(test)]
 mod tests;
 mod writing;
 
-pub use writing::{texts_tell, write_entry};
+pub use reading::{read_entry, texts_tell};
+pub use token_text::Line;
+pub use writing::write_entry;

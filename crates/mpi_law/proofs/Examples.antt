@@ -9,16 +9,18 @@ use Rattle.mpi_base.specs.declared.ops.Op.{Op}
 use Rattle.mpi_base.specs.declared.ops.Op.TheVariants as op
 use Rattle.mpi_base.specs.declared.replies.Reply.TheVariants as reply
 use Rattle.mpi_base.specs.declared.errors.ErrClass.TheVariants as class
-use Rattle.mpi_law.specs.declared.rows.Bound.TheVariants.{Session, Group, Comm}
+use Rattle.pset_reg.specs.Sets.{start_of}
+use Rattle.local_law.specs.Names.{bind}
+use Rattle.local_law.specs.Objects.{Session, Group, Comm, no_objects}
 use Rattle.mpi_law.specs.declared.setting.Setting.{Setting}
 use Rattle.mpi_law.specs.ScriptLists.{AllScripts}
-use Rattle.mpi_law.specs.Local.{Local, Effect, Says, Frees, Duplicated, bind, effect_of}
+use Rattle.mpi_law.specs.Local.{Local, Effect, Says, Frees, Duplicated, call_of, effect_of}
 use Rattle.mpi_law.specs.Registry.{Registry, Event, Group_and_tag, effect_at, is_open, part_of, Calls, Picks, Backs, Replies, has_open, blank_comm, Nth_dup, name_of, stands_for, in_use, registry_opening, registry_next, registry_after, IsRegistryRun}
 use Rattle.mpi_law.specs.Closed.{is_settled, is_closed}
 
 -- one rank
 abbrev one : Setting
-one = record { ranks = 1; contexts = 63 }
+one = record { ranks = 1; contexts = 63; psets = start_of 1 }
 
 abbrev start : Registry
 start = registry_opening one
@@ -50,17 +52,17 @@ seven = six ++ Replies 0 0 (reply.Comm 1 0 1) ∷ []
 
 -- each of the seven events is allowed when it comes
 seven_are_a_run : IsRegistryRun one start seven
-unfolding registry_next effect_of
+unfolding registry_next call_of
 seven_are_a_run = (
-  record { rank = lit< tt; thread = lit< tt; built = refl; idle = refl; reply = refl },
+  record { rank = lit< tt; thread = lit< tt; built = refl; alone = refl; idle = refl; reply = refl },
   (
     refl,
     (
-      record { rank = lit< tt; thread = lit< tt; built = refl; idle = refl; reply = refl },
+      record { rank = lit< tt; thread = lit< tt; built = refl; alone = refl; idle = refl; reply = refl },
       (
         refl,
         (
-          record { rank = lit< tt; thread = lit< tt; built = refl; idle = refl; reply = refl },
+          record { rank = lit< tt; thread = lit< tt; built = refl; alone = refl; idle = refl; reply = refl },
           (
             (record { there = lit< tt; members = refl; member = refl; all = refl }, record { above = lit≤ tt; below = lit≤ tt; unused = refl }),
             (
@@ -76,7 +78,7 @@ seven_are_a_run = (
 
 -- they leave one communicator, of context 1 and rank 0
 one_communicator : (registry_after one start seven).comms ≡ record { ctx = 1; members = 0 ∷ []; freed = []; returned = [] } ∷ []
-unfolding registry_next effect_of
+unfolding registry_next call_of
 one_communicator = refl
 
 -- thread 0 calls three operations, no other thread calls any
@@ -85,21 +87,21 @@ scripts = record { ranks = 1; lists = (open_session ∷ group_of_self ∷ create
 
 -- nothing more may come after the seven
 seven_close : is_closed one scripts (registry_after one start seven) ≡ true
-unfolding registry_next effect_of is_closed
+unfolding registry_next call_of is_closed
 seven_close = refl
 
 -- from the pick to the answer the same group and tag is busy, and then no more
 busy_when_picked : effect_at one (registry_after one start six) 0 (op.Create (codes "g") (codes "a") (codes "d")) ≡ Says (part_of (registry_after one start six) 0).local (reply.Refused class.Busy)
-unfolding registry_next effect_of
+unfolding registry_next call_of
 busy_when_picked = refl
 
 not_busy_when_answered : is_open (registry_after one start seven) 0 (Group_and_tag (0 ∷ []) (codes "a")) ≡ false
-unfolding registry_next effect_of
+unfolding registry_next call_of
 not_busy_when_answered = refl
 
 -- while the communicator is owed, the registry is not closed
 six_do_not_close : is_closed one scripts (registry_after one start six) ≡ false
-unfolding registry_next effect_of is_closed
+unfolding registry_next call_of is_closed
 six_do_not_close = refl
 
 -- A duplicate
@@ -119,9 +121,9 @@ after_seven = registry_after one start seven
 
 -- they go on with the run
 three_go_on : IsRegistryRun one after_seven three
-unfolding registry_next effect_of
+unfolding registry_next call_of
 three_go_on = (
-  record { rank = lit< tt; thread = lit< tt; built = refl; idle = refl; reply = refl },
+  record { rank = lit< tt; thread = lit< tt; built = refl; alone = refl; idle = refl; reply = refl },
   (
     (record { there = lit< tt; members = refl; member = refl; all = refl }, record { above = lit≤ tt; below = lit≤ tt; unused = refl }),
     (
@@ -133,21 +135,21 @@ three_go_on = (
 
 -- the key stands for the first duplicate of the first communicator, and for nothing at a rank that is no member
 dup_key_stands : stands_for after_seven.comms 0 dup_key ≡ Some (Nth_dup 0 0)
-unfolding registry_next effect_of
+unfolding registry_next call_of
 dup_key_stands = refl
 
 dup_key_elsewhere : stands_for after_seven.comms 1 dup_key ≡ None
-unfolding registry_next effect_of
+unfolding registry_next call_of
 dup_key_elsewhere = refl
 
 -- the next duplicate of it has another name
 next_dup : name_of (registry_after one after_seven three) 0 (Duplicated 0) ≡ Nth_dup 0 1
-unfolding registry_next effect_of
+unfolding registry_next call_of
 next_dup = refl
 
 -- a context that is in use is not free
 context_in_use : in_use after_seven.comms 0 1 ≡ true
-unfolding registry_next effect_of
+unfolding registry_next call_of
 context_in_use = refl
 
 -- A free
@@ -163,9 +165,9 @@ abbrev freed : List Event
 freed = Calls 0 0 free false ∷ Backs 0 1 0 ∷ Replies 0 0 reply.Fine ∷ []
 
 freed_go_on : IsRegistryRun one after_ten freed
-unfolding registry_next effect_of
+unfolding registry_next call_of
 freed_go_on = (
-  record { rank = lit< tt; thread = lit< tt; built = refl; idle = refl; reply = refl },
+  record { rank = lit< tt; thread = lit< tt; built = refl; alone = refl; idle = refl; reply = refl },
   (
     record { place = 0; here = refl; freed = refl; settled = refl; none = refl },
     (
@@ -177,16 +179,16 @@ freed_go_on = (
 
 -- after the call alone its context is still in use, and after the give-back it is not
 still_in_use : in_use (registry_after one after_ten (Calls 0 0 free false ∷ [])).comms 0 1 ≡ true
-unfolding registry_next effect_of
+unfolding registry_next call_of
 still_in_use = refl
 
 in_use_no_more : in_use (registry_after one after_ten freed).comms 0 1 ≡ false
-unfolding registry_next effect_of
+unfolding registry_next call_of
 in_use_no_more = refl
 
 -- before the call not all members have freed it
 not_freed_before : list_all (has_rank (get_or after_ten.comms 0 blank_comm).freed) (get_or after_ten.comms 0 blank_comm).members ≡ false
-unfolding registry_next effect_of
+unfolding registry_next call_of
 not_freed_before = refl
 
 -- a duplicate that another thread has called is open on it until its answer
@@ -194,112 +196,113 @@ abbrev open_dup : Registry
 open_dup = registry_after one after_ten (Calls 0 1 (op.Dup (codes "c") (codes "f")) false ∷ Calls 0 0 free false ∷ Picks 0 (record { parent = 1; kind = kind.Dup; number = 1; tag = []; members = 0 ∷ [] }) (Some 3) ∷ [])
 
 held_by_dup : has_open open_dup 0 0 ≡ true
-unfolding registry_next effect_of
+unfolding registry_next call_of
 held_by_dup = refl
 
 released : has_open (registry_after one open_dup (Replies 0 1 (reply.Comm 3 0 1) ∷ [])) 0 0 ≡ false
-unfolding registry_next effect_of
+unfolding registry_next call_of
 released = refl
 
 -- while a give-back is allowed, the registry is not closed
 not_closed_yet : is_settled (registry_after one after_ten (Calls 0 0 free false ∷ [])) 0 ≡ false
-unfolding registry_next effect_of
+unfolding registry_next call_of
 not_closed_yet = refl
 
 -- What calls are answered
 
 -- no name, and no session
 abbrev nothing : Local
-nothing = record { names = []; sessions = 0 }
+nothing = no_objects
 
 -- a session and two groups of it: rank 0 alone, and the empty group
 abbrev groups : Local
 groups =
     record {
       names = bind (bind (bind [] (codes "s") (Session 1)) (codes "g") (Group (0 ∷ []) 1)) (codes "e") (Group [] 1);
-      sessions = 1;
+      live = 1 ∷ [];
+      opened = 1;
     }
 
 -- a communicator of session 1
 abbrev communicator : Local
-communicator = record { names = bind [] (codes "c") (Comm 0 1); sessions = 1 }
+communicator = record { names = bind [] (codes "c") (Comm 0 1); live = 1 ∷ []; opened = 1 }
 
 -- a call at a rank where no creation is open
 abbrev answer : ℕ → Local → Op → Effect
-answer rank l o = effect_of one rank (λ group tag. false) l o
+answer rank l o = effect_of one rank (record { members = λ p. 0 ∷ []; busy = λ group tag. false }) l o
 
 -- a session under a name that is bound
 session_on_bound : answer 0 groups open_session ≡ Says groups (reply.Refused class.Arg)
-unfolding effect_of
+unfolding call_of
 session_on_bound = refl
 
 -- a group of no session
 pset_on_no_session : answer 0 nothing group_of_self ≡ Says nothing (reply.Refused class.Session)
-unfolding effect_of
+unfolding call_of
 pset_on_no_session = refl
 
 -- a group of a group
 pset_on_group : answer 0 groups (op.Pset (codes "g") (codes "mpi://SELF") (codes "h")) ≡ Says groups (reply.Refused class.Session)
-unfolding effect_of
+unfolding call_of
 pset_on_group = refl
 
 -- a process set that is not there
 pset_of_no_set : answer 0 groups (op.Pset (codes "s") (codes "app://ocean") (codes "h")) ≡ Says groups (reply.Refused class.Arg)
-unfolding effect_of
+unfolding call_of
 pset_of_no_set = refl
 
 -- a group under a name that is bound
 pset_on_bound : answer 0 groups group_of_self ≡ Says groups (reply.Refused class.Arg)
-unfolding effect_of
+unfolding call_of
 pset_on_bound = refl
 
 -- a creation from no group
 create_on_no_group : answer 0 nothing create ≡ Says nothing (reply.Refused class.Group)
-unfolding effect_of
+unfolding call_of
 create_on_no_group = refl
 
 -- a creation from a group that lacks the caller
 create_from_outside : answer 1 groups create ≡ Says groups (reply.Refused class.Group)
-unfolding effect_of
+unfolding call_of
 create_from_outside = refl
 
 -- a creation under a name that is bound
 create_on_bound : answer 0 groups (op.Create (codes "g") (codes "a") (codes "s")) ≡ Says groups (reply.Refused class.Arg)
-unfolding effect_of
+unfolding call_of
 create_on_bound = refl
 
 -- a creation of a group and tag that is open at the rank
-create_while_open : effect_of one 0 (λ group tag. true) groups create ≡ Says groups (reply.Refused class.Busy)
-unfolding effect_of
+create_while_open : effect_of one 0 (record { members = λ p. []; busy = λ group tag. true }) groups create ≡ Says groups (reply.Refused class.Busy)
+unfolding call_of
 create_while_open = refl
 
 -- a duplicate of nothing, of a group, and under a name that is bound
 dup_on_nothing : answer 0 nothing dup ≡ Says nothing (reply.Refused class.Comm)
-unfolding effect_of
+unfolding call_of
 dup_on_nothing = refl
 
 dup_on_group : answer 0 groups (op.Dup (codes "g") (codes "s")) ≡ Says groups (reply.Refused class.Comm)
-unfolding effect_of
+unfolding call_of
 dup_on_group = refl
 
 dup_on_bound : answer 0 communicator (op.Dup (codes "c") (codes "c")) ≡ Says communicator (reply.Refused class.Arg)
-unfolding effect_of
+unfolding call_of
 dup_on_bound = refl
 
 -- a free of nothing and of a group; of a communicator it unbinds the name and waits
 free_nothing : answer 0 nothing free ≡ Says nothing (reply.Refused class.Comm)
-unfolding effect_of
+unfolding call_of
 free_nothing = refl
 
 free_group : answer 0 groups (op.Free (codes "g")) ≡ Says groups (reply.Refused class.Comm)
-unfolding effect_of
+unfolding call_of
 free_group = refl
 
-free_communicator : answer 0 communicator free ≡ Frees (record { names = []; sessions = 1 }) 0
-unfolding effect_of
+free_communicator : answer 0 communicator free ≡ Frees (record { names = []; live = 1 ∷ []; opened = 1 }) 0
+unfolding call_of
 free_communicator = refl
 
 -- a creation from the empty group makes no communicator
 create_from_empty : answer 0 groups (op.Create (codes "e") (codes "a") (codes "c")) ≡ Says groups reply.Null
-unfolding effect_of
+unfolding call_of
 create_from_empty = refl

@@ -1,2 +1,3 @@
 pub mod ScriptFacts
 mod Examples
+mod LocalExamples

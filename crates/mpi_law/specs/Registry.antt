@@ -11,11 +11,12 @@ use Rattle.mpi_base.specs.declared.ops.Op.{Op}
 use Rattle.mpi_base.specs.declared.replies.Reply.{Reply}
 use Rattle.mpi_base.specs.declared.replies.Reply.TheVariants as reply
 use Rattle.mpi_base.specs.declared.errors.ErrClass.TheVariants as class
-use Rattle.mpi_law.specs.declared.rows.Bound.TheVariants.{Comm}
+use Rattle.local_law.specs.Names.{rebind, unbind}
+use Rattle.local_law.specs.Objects.{Comm, no_objects}
 use Rattle.mpi_law.specs.declared.setting.Setting.{Setting}
 use Rattle.mpi_law.specs.declared.setting.TheConstants.{THREADS}
 use Rattle.mpi_law.specs.ScriptLists.{is_built}
-use Rattle.mpi_law.specs.Local.{Local, Effect, Says, Joins, Frees, Origin, Grouped, Duplicated, effect_of, is_said, rebind, unbind}
+use Rattle.mpi_law.specs.Local.{Local, Around, Effect, Says, Joins, Frees, Origin, Grouped, Duplicated, effect_of, is_said, is_alone_in, with_names}
 
 -- a communicator, named by its place in the registry's list, with the members that have freed it and those that have
 -- given it back
@@ -84,7 +85,7 @@ abbrev pub idle_thread : ThreadPart
 idle_thread = record { calls = 0; wait = Idle }
 
 abbrev pub blank_part : RankPart
-blank_part = record { local = record { names = []; sessions = 0 }; threads = replicate THREADS idle_thread }
+blank_part = record { local = no_objects; threads = replicate THREADS idle_thread }
 
 abbrev pub blank_creation : Creation
 blank_creation = record { name = Group_and_tag [] []; group = []; callers = []; outcome = None; answered = [] }
@@ -197,8 +198,12 @@ LiveApart g =
 
 -- What a call does, and what is owed
 
+-- what a call at a rank looks at besides the rank's own objects
+abbrev pub around : Registry → ℕ → Around
+around g r = record { members = λ p. (get_or g.comms p blank_comm).members; busy = λ group tag. is_open g r (Group_and_tag group tag) }
+
 abbrev pub effect_at : Setting → Registry → ℕ → Op → Effect
-effect_at s g r op = effect_of s r (λ group tag. is_open g r (Group_and_tag group tag)) (part_of g r).local op
+effect_at s g r op = effect_of s r (around g r) (part_of g r).local op
 
 -- the name of a creation that a rank calls now
 abbrev pub name_of : Registry → ℕ → Origin → CreationName
@@ -312,8 +317,8 @@ caller_of (k ∷ ks) r = if k.rank == r then k else caller_of ks r
 -- the target is bound to the new communicator, or free again
 abbrev pub bind_outcome : Local → Caller → Option Outcome → Local
 bind_outcome l k None = l
-bind_outcome l k (Some NoneFree) = record { names = unbind l.names k.target; sessions = l.sessions }
-bind_outcome l k (Some (Made p)) = record { names = rebind l.names k.target (Comm p k.session); sessions = l.sessions }
+bind_outcome l k (Some NoneFree) = with_names l (unbind l.names k.target)
+bind_outcome l k (Some (Made p)) = with_names l (rebind l.names k.target (Comm p k.session))
 
 abbrev pub after_reply : Registry → ℕ → ℕ → Wait → Registry
 after_reply g r t Idle = g
@@ -363,11 +368,12 @@ pub record MayBack (g : Registry) (r c dropped : ℕ) : Type 0 where
   pub settled : list_all (λ m. not (has_open g place m)) (get_or g.comms place blank_comm).members ≡ true
   pub none : dropped ≡ 0
 
--- a thread that waits for nothing calls an operation that is built
+-- a thread that waits for nothing calls an operation that is built; a creation from a group needs nobody else yet
 pub record MayCall (s : Setting) (g : Registry) (r t : ℕ) (op : Op) (now : Bool) : Type 0 where
   pub rank : r < s.ranks
   pub thread : t < THREADS
-  pub built : is_built op ≡ true
+  pub built : is_built s.ranks op ≡ true
+  pub alone : is_alone_in (part_of g r).local op ≡ true
   pub idle : is_idle_wait (thread_of g r t).wait ≡ true
   pub reply : now ≡ is_said (effect_at s g r op)
 

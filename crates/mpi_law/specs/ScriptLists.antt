@@ -1,8 +1,8 @@
 -- Scripts, this project's own: a list of operations for each rank and thread.
 use Rattle.mpi_base.specs.declared.members.TheConstants.{MOST_RANKS}
-use Rattle.std.specs.Prelude.{◌≡◌, ℕ, ◌+◌, ◌*◌, ◌^◌, ◌<◌, ◌≤◌, Bool, true, false, List, [], get_or, slice_get, Option, sum_by, length, bytes_eq, codes, set, ◌++◌, ◌∷◌}
+use Rattle.std.specs.Prelude.{◌≡◌, ◌==◌, ℕ, ◌+◌, ◌*◌, ◌^◌, ◌<◌, ◌≤◌, Bool, true, false, List, [], get_or, slice_get, Option, sum_by, length, set, ◌++◌, ◌∷◌}
 use Rattle.mpi_base.specs.declared.ops.Op.{Op}
-use Rattle.mpi_base.specs.declared.ops.Op.TheVariants.{Session, Pset, Create, Dup, Free}
+use Rattle.mpi_base.specs.declared.ops.Op.TheVariants as op
 
 -- the ranks, and the script of thread t of rank r at the place 8 r + t
 pub record AllScripts : Type 0 where
@@ -25,18 +25,20 @@ total_of scripts = sum_by length scripts.lists
 abbrev pub with_op : AllScripts → ℕ → ℕ → Op → AllScripts
 with_op scripts r t op = record { ranks = scripts.ranks; lists = set scripts.lists (8 * r + t) (script_of scripts r t ++ op ∷ []) }
 
--- the name of the process set that holds the caller alone (MPI 4.0, 11.3.2)
-abbrev pub self_set : List ℕ
-self_set = codes "mpi://SELF"
-
--- whether an operation may be called yet
-abbrev pub is_built : Op → Bool
-is_built (Session target) = true
-is_built (Pset session set target) = bytes_eq set self_set
-is_built (Create group tag target) = true
-is_built (Dup comm target) = true
-is_built (Free comm) = true
-is_built _ = false
+-- whether an operation may be called yet where there are so many ranks: what needs other ranks may on one rank alone
+abbrev pub is_built : ℕ → Op → Bool
+is_built ranks (op.Finalize session) = false
+is_built ranks (op.Create group tag target) = ranks == 1
+is_built ranks (op.Dup comm target) = ranks == 1
+is_built ranks (op.Split comm colour key target) = false
+is_built ranks (op.CreateGroup comm group tag target) = false
+is_built ranks (op.Free comm) = ranks == 1
+is_built ranks (op.Send comm to tag payload) = false
+is_built ranks (op.Recv comm source tag room) = false
+is_built ranks (op.Irecv comm source tag room target) = false
+is_built ranks (op.Wait request) = false
+is_built ranks (op.Await name) = false
+is_built ranks _ = true
 
 -- eight scripts for each rank, and their operations counted
 pub record IsScripts (ranks total : ℕ) (lists : List (List Op)) : Type 0 where

@@ -13,7 +13,8 @@ use Rattle.mpi_base.specs.declared.entries.Said.TheVariants.{Own, Ready, Picked}
 use Rattle.mpi_base.specs.declared.entries.Entry.{Entry}
 use Rattle.mpi_base.specs.declared.replies.Reply.{Reply}
 use Rattle.mpi_base.specs.declared.entries.Said.{Said}
-use Rattle.mpi_law.specs.Local.{effect_of}
+use Rattle.pset_reg.specs.Sets.{start_of}
+use Rattle.mpi_law.specs.Local.{call_of}
 use Rattle.mpi_law.specs.Registry.{Calls, Picks, Backs, Replies}
 use Rattle.mpi_protocol.specs.Rank.{Rank}
 use Rattle.mpi_protocol.specs.Agreement.{is_least, is_ready, least_common}
@@ -31,7 +32,7 @@ all_enabled w [] = true
 all_enabled w (a ∷ more) = may_happen w (record { rank = 0; act = a }) && all_enabled (moved w (record { rank = 0; act = a })) more
 
 abbrev start : List Rank
-start = opening (record { ranks = 1; contexts = 63 })
+start = opening (record { ranks = 1; contexts = 63; psets = start_of 1 })
 
 abbrev key : Key
 key = key_from (0 ∷ []) (codes "a")
@@ -63,12 +64,12 @@ seven =
 
 -- each of the seven choices is enabled when it is made
 seven_enabled : all_enabled start acts ≡ true
-unfolding all_enabled is_enabled step effect_of same_key is_ready is_least key_before key_cmp least_common
+unfolding all_enabled is_enabled step call_of same_key is_ready is_least key_before key_cmp least_common
 seven_enabled = refl
 
 -- the entries are these
 seven_entries : entries start acts ≡ seven
-unfolding entries step effect_of same_key is_ready is_least key_before key_cmp least_common
+unfolding entries step call_of same_key is_ready is_least key_before key_cmp least_common
 seven_entries = refl
 
 -- what the registry sees of them
@@ -105,11 +106,11 @@ five =
     ∷ []
 
 five_enabled : all_enabled (after start acts) dup_acts ≡ true
-unfolding all_enabled after is_enabled step effect_of same_key is_ready is_least key_before key_cmp least_common
+unfolding all_enabled after is_enabled step call_of same_key is_ready is_least key_before key_cmp least_common
 five_enabled = refl
 
 five_entries : entries (after start acts) dup_acts ≡ five
-unfolding entries after step effect_of same_key is_ready is_least key_before key_cmp least_common
+unfolding entries after step call_of same_key is_ready is_least key_before key_cmp least_common
 five_entries = refl
 
 five_events : events_of five ≡ Calls 0 0 (Dup (codes "c") (codes "d")) false ∷ Picks 0 dup_key (Some 2) ∷ Replies 0 0 (Comm 2 0 1) ∷ []
@@ -151,11 +152,11 @@ abbrev before_free : List Rank
 before_free = after (after start acts) dup_acts
 
 nine_enabled : all_enabled before_free free_acts ≡ true
-unfolding all_enabled after is_enabled step effect_of same_key is_ready is_least key_before key_cmp least_common has_none_open
+unfolding all_enabled after is_enabled step call_of same_key is_ready is_least key_before key_cmp least_common has_none_open
 nine_enabled = refl
 
 nine_entries : entries before_free free_acts ≡ nine
-unfolding entries after step effect_of same_key is_ready is_least key_before key_cmp least_common
+unfolding entries after step call_of same_key is_ready is_least key_before key_cmp least_common
 nine_entries = refl
 
 nine_events : events_of nine ≡
@@ -171,11 +172,11 @@ nine_events = refl
 
 -- a communicator that was not freed is not left, and one that was not left is not given back
 no_leave : is_enabled (rank_at before_free 0) (Leave 1) ≡ false
-unfolding after is_enabled step effect_of same_key is_ready is_least key_before key_cmp least_common has_none_open
+unfolding after is_enabled step call_of same_key is_ready is_least key_before key_cmp least_common has_none_open
 no_leave = refl
 
 no_back : is_enabled (rank_at (after before_free (Call 0 (Free (codes "c")) ∷ [])) 0) (Back 1) ≡ false
-unfolding after is_enabled step effect_of same_key is_ready is_least key_before key_cmp least_common
+unfolding after is_enabled step call_of same_key is_ready is_least key_before key_cmp least_common
 no_back = refl
 
 -- while a duplicate of it is open, a communicator that was freed is not left
@@ -183,7 +184,7 @@ two_threads : List Act
 two_threads = Call 1 (Dup (codes "c") (codes "f")) ∷ Call 0 (Free (codes "c")) ∷ []
 
 no_leave_yet : is_enabled (rank_at (after before_free two_threads) 0) (Leave 1) ≡ false
-unfolding two_threads after is_enabled step effect_of same_key is_ready is_least key_before key_cmp least_common has_none_open
+unfolding two_threads after is_enabled step call_of same_key is_ready is_least key_before key_cmp least_common has_none_open
 no_leave_yet = refl
 
 -- nor when it is decided, but when its thread is answered
@@ -194,11 +195,11 @@ decided : List Rank
 decided = after (after before_free two_threads) (Settle open_key ∷ Offer open_key ∷ Settle open_key ∷ [])
 
 no_leave_decided : is_enabled (rank_at decided 0) (Leave 1) ≡ false
-unfolding decided two_threads after is_enabled step effect_of same_key is_ready is_least key_before key_cmp least_common has_none_open
+unfolding decided two_threads after is_enabled step call_of same_key is_ready is_least key_before key_cmp least_common has_none_open
 no_leave_decided = refl
 
 leave_answered : is_enabled (rank_at (after decided (Answer 1 ∷ [])) 0) (Leave 1) ≡ true
-unfolding decided two_threads after is_enabled step effect_of same_key is_ready is_least key_before key_cmp least_common has_none_open
+unfolding decided two_threads after is_enabled step call_of same_key is_ready is_least key_before key_cmp least_common has_none_open
 leave_answered = refl
 
 -- while a key owns the mask, a communicator that was left is not given back; when the key lets go, it may be
@@ -206,28 +207,28 @@ owned : List Rank
 owned = after before_free (Call 0 (Free (codes "c")) ∷ Leave 1 ∷ Call 1 (Create (codes "g") (codes "b") (codes "e")) ∷ Settle again_key ∷ Offer again_key ∷ [])
 
 no_back_owned : is_enabled (rank_at owned 0) (Back 1) ≡ false
-unfolding owned after is_enabled step effect_of same_key is_ready is_least key_before key_cmp least_common
+unfolding owned after is_enabled step call_of same_key is_ready is_least key_before key_cmp least_common
 no_back_owned = refl
 
 back_let_go : is_enabled (rank_at (after owned (Settle again_key ∷ [])) 0) (Back 1) ≡ true
-unfolding owned after is_enabled step effect_of same_key is_ready is_least key_before key_cmp least_common
+unfolding owned after is_enabled step call_of same_key is_ready is_least key_before key_cmp least_common
 back_let_go = refl
 
 -- and the creation meanwhile got another context
 another_context : entries owned (Settle again_key ∷ []) ≡ line (Settle again_key) (Some (Picked 3)) None ∷ []
-unfolding entries owned after step effect_of same_key is_ready is_least key_before key_cmp least_common
+unfolding entries owned after step call_of same_key is_ready is_least key_before key_cmp least_common
 another_context = refl
 
 -- the next duplicate of the same communicator has the next number
 next_number : (key_on (rank_at (after (after start acts) dup_acts) 0) 1).number ≡ 1
-unfolding after step effect_of same_key is_ready is_least key_before key_cmp least_common
+unfolding after step call_of same_key is_ready is_least key_before key_cmp least_common
 next_number = refl
 
 -- a duplicate of a name that is bound to nothing is refused, and does not count
 refused_entry : entries (after start acts) (Call 0 (Dup (codes "x") (codes "d")) ∷ []) ≡ line (Call 0 (Dup (codes "x") (codes "d"))) None (Some (Refused class.Comm)) ∷ []
-unfolding entries after step effect_of same_key is_ready is_least key_before key_cmp least_common
+unfolding entries after step call_of same_key is_ready is_least key_before key_cmp least_common
 refused_entry = refl
 
 refused_number : (key_on (rank_at (after (after start acts) (Call 0 (Dup (codes "x") (codes "d")) ∷ [])) 0) 1).number ≡ 0
-unfolding after step effect_of same_key is_ready is_least key_before key_cmp least_common
+unfolding after step call_of same_key is_ready is_least key_before key_cmp least_common
 refused_number = refl

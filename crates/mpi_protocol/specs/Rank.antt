@@ -2,6 +2,7 @@
 use Rattle.std.specs.Prelude.{ℕ, ◌+◌, ◌==◌, not, Bool, true, false, if◌then◌else◌, List, [], ◌∷◌, ◌++◌, map, filter, find, option_map, get_or, replicate, Option, None, unwrap_or}
 use Rattle.mpi_base.specs.declared.keys.Key.{Key}
 use Rattle.mpi_base.specs.Keys.{same_key}
+use Rattle.local_law.specs.Objects.{no_objects}
 use Rattle.mpi_law.specs.declared.setting.Setting.{Setting}
 use Rattle.mpi_law.specs.declared.setting.TheConstants.{THREADS}
 use Rattle.mpi_law.specs.Local.{Local}
@@ -52,7 +53,7 @@ fresh s r =
       gathered = [];
       rounds = [];
       comms = [];
-      local = record { names = []; sessions = 0 };
+      local = no_objects;
       threads = replicate THREADS idle_thread;
     }
 

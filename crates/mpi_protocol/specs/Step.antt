@@ -11,10 +11,11 @@ use Rattle.mpi_base.specs.declared.entries.Act.TheVariants.{Call, Answer, Delive
 use Rattle.mpi_base.specs.declared.entries.Said.{Said}
 use Rattle.mpi_base.specs.declared.entries.Said.TheVariants as said
 use Rattle.mpi_base.specs.declared.entries.Entry.{Entry}
-use Rattle.mpi_law.specs.declared.rows.Bound.TheVariants.{Comm}
+use Rattle.local_law.specs.Names.{rebind, unbind}
+use Rattle.local_law.specs.Objects.{Comm}
 use Rattle.mpi_law.specs.declared.setting.TheConstants.{THREADS}
 use Rattle.mpi_law.specs.ScriptLists.{is_built}
-use Rattle.mpi_law.specs.Local.{Local, Effect, Says, Joins, Frees, Origin, Grouped, Duplicated, Asked, effect_of, rebind, unbind}
+use Rattle.mpi_law.specs.Local.{Local, Around, Effect, Says, Joins, Frees, Origin, Grouped, Duplicated, Asked, effect_of, is_alone_in, with_names}
 use Rattle.mpi_law.specs.Registry.{place_in}
 use Rattle.ctx_mask.specs.Masks.{none_of}
 use Rattle.mpi_protocol.specs.declared.rows.Outcome.{Outcome}
@@ -63,6 +64,10 @@ counted comms (Duplicated c) = count_creation comms c
 -- a creation is open here while its key has a stage
 abbrev pub is_open_here : Rank → List ℕ → List ℕ → Bool
 is_open_here x group tag = is_some (stage_of x.opened (key_from group tag))
+
+-- what a call looks at besides the rank's own objects
+abbrev pub around_here : Rank → Around
+around_here x = record { members = λ c. (comm_at x.comms c).members; busy = is_open_here x }
 
 abbrev pub with_thread : Rank → ℕ → ThreadRow → List ThreadRow
 with_thread x t thread = set x.threads t thread
@@ -120,14 +125,14 @@ answer_state x t key l =
 abbrev pub ended : Rank → ℕ → Key → List ℕ → ℕ → Outcome → Move
 ended x t key target session (outcome.Context c) =
     record {
-      state = answer_state x t key (record { names = rebind x.local.names target (Comm c session); sessions = x.local.sessions });
+      state = answer_state x t key (with_names x.local (rebind x.local.names target (Comm c session)));
       said = None;
       dropped = None;
       reply = Some (reply.Comm c (place_in key.members x.rank) (length key.members));
     }
 ended x t key target session outcome.Exhausted =
     record {
-      state = answer_state x t key (record { names = unbind x.local.names target; sessions = x.local.sessions });
+      state = answer_state x t key (with_names x.local (unbind x.local.names target));
       said = None;
       dropped = None;
       reply = Some (reply.Refused class.Exhausted);
@@ -277,7 +282,7 @@ is_answerable x (Creation key target session) = is_done (stage_of x.opened key)
 
 -- when an act may be made; no rank can send another anything yet
 unfoldable pub is_enabled : Rank → Act → Bool
-is_enabled x (Call t op) = nat_lt t THREADS && (is_idle (thread_at x t).waits && is_built op)
+is_enabled x (Call t op) = nat_lt t THREADS && (is_idle (thread_at x t).waits && (is_built x.setting.ranks op && is_alone_in x.local op))
 is_enabled x (Answer t) = nat_lt t THREADS && is_answerable x (thread_at x t).waits
 is_enabled x (Deliver from) = false
 is_enabled x (MakeOffer key) = is_due (stage_of x.opened key)
@@ -286,7 +291,7 @@ is_enabled x (Leave c) = may_leave x c (row_at x.comms c)
 is_enabled x (Back c) = may_give_back x (row_at x.comms c)
 
 unfoldable pub step : Rank → Act → Move
-step x (Call t op) = called x t (effect_of x.setting x.rank (is_open_here x) x.local op)
+step x (Call t op) = called x t (effect_of x.setting x.rank (around_here x) x.local op)
 step x (Answer t) = answered x t (thread_at x t).waits
 step x (Deliver from) = stays x
 step x (MakeOffer key) = if_waiting x key (stage_of x.opened key)

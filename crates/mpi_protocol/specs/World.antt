@@ -1,5 +1,5 @@
 -- All ranks, each with its own state. This project's own.
-use Rattle.std.specs.Prelude.{ℕ, ◌&&◌, Bool, List, map, length, get_or, set, nat_lt}
+use Rattle.std.specs.Prelude.{ℕ, ◌&&◌, Bool, List, [], map, length, get_or, set, nat_lt}
 use Rattle.std.specs.List.{range_with_len}
 use Rattle.mpi_base.specs.declared.entries.Choice.{Choice}
 use Rattle.mpi_base.specs.declared.entries.Entry.{Entry}
@@ -11,7 +11,7 @@ abbrev pub opening : Setting → List Rank
 opening s = map (fresh s) (range_with_len 0 s.ranks)
 
 abbrev pub blank : Rank
-blank = fresh (record { ranks = 0; contexts = 0 }) 0
+blank = fresh (record { ranks = 0; contexts = 0; psets = record { ranks = 0; sets = [] } }) 0
 
 abbrev pub rank_at : List Rank → ℕ → Rank
 rank_at w r = get_or w r blank

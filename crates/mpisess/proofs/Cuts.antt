@@ -1,11 +1,11 @@
 -- A text cut at its first line feed.
-use Rattle.std.proofs.Common.{◌≡◌, ℕ, zero, suc, ◌<◌, ◌≤◌, ◌==◌, Bool, true, false, List, [], ◌∷◌, length, get_or, take, drop, Some, None, position, refl, arith}
+use Rattle.std.proofs.Common.{◌≡◌, ℕ, zero, suc, ◌<◌, ◌≤◌, ◌==◌, Bool, true, false, List, [], ◌∷◌, length, get_or, take, drop, Some, None, position, refl, ap, arith}
 use Rattle.std.proofs.lemmas.Grind.{common_steps}
 use Rattle.std.proofs.lemmas.Bool.Decides.{nat_tests}
 use Rattle.std.proofs.lemmas.List.Quantifiers.{position-Some}
 use Rattle.std.proofs.lemmas.List.Sums.{fails_before_first}
 use Rattle.std.specs.List.{position_or_len}
-use Rattle.mpisess.specs.Script.{lines_of}
+use Rattle.mpisess.specs.Script.{lines_of, body_of}
 
 abbrev is_feed : ℕ → Bool
 is_feed b = b == 10
@@ -42,3 +42,23 @@ cut_none [] l h = absurd (omega (arith, l))
 cut_none (b ∷ bs) l h =
     let n = no_place (b ∷ bs) h in
     only_one b bs (λ k q. fails_before_first is_feed (b ∷ bs) k 0 (omega (arith, q, n)))
+
+-- the carriage return at the end of a line is dropped
+pub body_dropped : (line : List ℕ) (i : ℕ) → length line ≡ suc i → get_or line i 0 ≡ 13 → body_of line ≡ take i line
+body_dropped [] i l e = absurd (omega (arith, l))
+body_dropped (b ∷ []) zero l e = rw e refl
+body_dropped (b ∷ []) (suc i) l e = absurd (omega (arith, l))
+body_dropped (b ∷ c ∷ bs) zero l e = absurd (omega (arith, l))
+body_dropped (b ∷ c ∷ bs) (suc i) l e = ap (λ (r : List ℕ). b ∷ r) (body_dropped (c ∷ bs) i (omega (arith, l)) e)
+
+-- and nothing else
+pub body_kept : (line : List ℕ) (i : ℕ) → length line ≡ suc i → (get_or line i 0 == 13) ≡ false → line ≡ body_of line
+body_kept [] i l e = refl
+body_kept (b ∷ []) zero l e = rw e refl
+body_kept (b ∷ []) (suc i) l e = absurd (omega (arith, l))
+body_kept (b ∷ c ∷ bs) zero l e = absurd (omega (arith, l))
+body_kept (b ∷ c ∷ bs) (suc i) l e = ap (λ (r : List ℕ). b ∷ r) (body_kept (c ∷ bs) i (omega (arith, l)) e)
+
+pub body_nothing : (line : List ℕ) → length line ≡ 0 → line ≡ body_of line
+body_nothing [] l = refl
+body_nothing (b ∷ bs) l = absurd (omega (arith, l))

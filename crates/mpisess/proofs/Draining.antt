@@ -1,9 +1,12 @@
 -- What the loop of the drain keeps.
-use Rattle.std.proofs.Common.{◌≡◌, ℕ, ◌+◌, ◌*◌, ◌^◌, ◌-◌, ◌<◌, ◌≤◌, List, [], ◌∷◌, ◌++◌, length, length-append, refl, sym, ap, ◌∙◌, subst, arith}
+use Rattle.std.proofs.Common.{◌≡◌, true, ℕ, ◌+◌, ◌*◌, ◌^◌, ◌-◌, ◌<◌, ◌≤◌, List, [], ◌∷◌, ◌++◌, length, length-append, refl, sym, ap, ◌∙◌, subst, inl, inr, arith}
 use Rattle.mpi_base.specs.declared.keys.Key.{Key}
 use Rattle.mpi_base.specs.declared.entries.Act.{Act}
 use Rattle.mpi_base.specs.declared.entries.Choice.{Choice}
 use Rattle.mpi_base.specs.declared.entries.Entry.{Entry}
+use Rattle.mpi_base.specs.declared.ops.Op.{Op}
+use Rattle.mpi_law.specs.declared.setting.Setting.{Setting}
+use Rattle.mpi_law.specs.Local.{is_alone_in}
 use Rattle.mpi_law.specs.ScriptLists.{AllScripts, script_of}
 use Rattle.mpi_protocol.specs.Rank.{Rank, fresh, thread_at, round_of}
 use Rattle.std.specs.List.{All, AllByRecursion}
@@ -17,6 +20,8 @@ use Rattle.run_law.specs.Solo.{steps_left}
 use Rattle.run_law.proofs.Counters.{counters_below}
 use Rattle.run_law.proofs.Goes.{run_on, end_on, drained_on}
 use Rattle.run_law.proofs.Solos.{steps_fall}
+use Rattle.run_law.proofs.Runs.{run_sees}
+use Rattle.run_law.proofs.Sole.{solo_alone}
 use Rattle.mpisess.specs.Job.{solo_setting, IsSoloJob, IsDrainedRun}
 
 -- the journal is that of a drained run, which ends in this state, and there are no more entries than the script allows
@@ -81,7 +86,7 @@ draining_on scripts x y journal act line job d s f =
 
 -- no counter comes near the end of its type
 pub record FewSteps (x : Rank) : Type 0 where
-  pub sessions : x.local.sessions < 2 ^ 64 - 1
+  pub sessions : x.local.opened < 2 ^ 64 - 1
   pub calls : (t : ℕ) → (thread_at x t).calls < 2 ^ 64 - 1
   pub rounds : (key : Key) → round_of x.rounds key < 2 ^ 64 - 1
   pub creations : All (λ m. m.creations < 2 ^ 64 - 1) x.comms
@@ -103,8 +108,21 @@ few_steps scripts x y journal job d e = subst FewSteps (sym e) fits where
       let few = job.few in
       let left = d.left in
       record {
-        sessions = let b = subst (λ (z : Rank). z.local.sessions ≤ length journal) at below.sessions in omega (arith, b, few, left);
+        sessions = let b = subst (λ (z : Rank). z.local.opened ≤ length journal) at below.sessions in omega (arith, b, few, left);
         calls = λ t. let b = subst (λ (z : Rank). (thread_at z t).calls ≤ length journal) at (below.calls t) in omega (arith, b, few, left);
         rounds = λ key. let b = subst (λ (z : Rank). round_of z.rounds key ≤ length journal) at (below.rounds key) in omega (arith, b, few, left);
         creations = All-from_recursion _ _ (all_below x.comms (subst (λ (z : Rank). AllByRecursion (λ m. m.creations ≤ length journal) z.comms) at below.creations));
       }
+
+-- any call may be made by the rank alone
+pub calls_alone : (scripts : AllScripts) (x : Rank) (journal : List Entry) → Draining scripts x journal → (op : Op) → is_alone_in x.local op ≡ true
+calls_alone scripts x journal d op =
+    let at : rank_at (end_of solo_setting journal) 0 ≡ x = ap (λ (w : List Rank). rank_at w 0) d.ends in
+    subst (λ (z : Rank). is_alone_in z.local op ≡ true) at (solo_alone solo_setting journal op refl (inr refl, (inl refl, tt)) d.so_far.run)
+
+-- the rank is the only one
+pub of_one_rank : (scripts : AllScripts) (x : Rank) (journal : List Entry) → Draining scripts x journal → x.setting.ranks ≡ 1
+of_one_rank scripts x journal d =
+    let at : rank_at (end_of solo_setting journal) 0 ≡ x = ap (λ (w : List Rank). rank_at w 0) d.ends in
+    let sees = run_sees solo_setting journal d.so_far.run in
+    subst (λ (z : Rank). z.setting.ranks ≡ 1) at (ap (λ (s : Setting). s.ranks) (sees.1.fits 0 (omega arith)).setting)

@@ -11,6 +11,7 @@ use Rattle.mpi_base.proofs.KeyFacts.{same_key-refl, key_before_total}
 use Rattle.mpi_base.specs.declared.ops.Op.{Op}
 use Rattle.mpi_base.specs.declared.entries.Act.{Act}
 use Rattle.mpi_base.specs.declared.entries.Act.TheVariants.{Call, Answer, Deliver, Offer as MakeOffer, Settle, Leave, Back}
+use Rattle.mpi_law.specs.Local.{is_alone_in}
 use Rattle.mpi_law.specs.ScriptLists.{AllScripts, script_of, next_op, is_built}
 use Rattle.mpi_protocol.specs.declared.rows.Stage.{Stage}
 use Rattle.mpi_protocol.specs.declared.rows.Stage.TheVariants.{Called, Waiting, Offered, Done}
@@ -221,24 +222,24 @@ some_same : {A : Type 0} {a b : A} → Some a ≡ Some b → a ≡ b
 some_same e = cc e
 
 -- an operation of a script is one of those that may be called yet
-built_at : (ops : List Op) (i : ℕ) (op : Op) → AllByRecursion (λ o. is_built o ≡ true) ops → slice_get ops i ≡ Some op → is_built op ≡ true
+built_at : (ops : List Op) (i : ℕ) (op : Op) → AllByRecursion (λ o. is_built 1 o ≡ true) ops → slice_get ops i ≡ Some op → is_built 1 op ≡ true
 built_at [] i op all e = absurd (none_some op None refl e)
-built_at (o ∷ ops) zero op all e = subst (λ (a : Op). is_built a ≡ true) (some_same e) all.0
+built_at (o ∷ ops) zero op all e = subst (λ (a : Op). is_built 1 a ≡ true) (some_same e) all.0
 built_at (o ∷ ops) (suc i) op all e = built_at ops i op all.1 e
 
--- a thread that waits for nothing may call what is built
-can_call : (x : Rank) (op : Op) → is_idle (thread_at x 0).waits ≡ true → is_built op ≡ true → is_enabled x (Call 0 op) ≡ true
+-- a thread that waits for nothing may call what is built and needs nobody else
+can_call : (x : Rank) (op : Op) → is_idle (thread_at x 0).waits ≡ true → is_built x.setting.ranks op ≡ true → is_alone_in x.local op ≡ true → is_enabled x (Call 0 op) ≡ true
 unfolding is_enabled
-can_call x op idle built = rw (idle, built) refl
+can_call x op idle built alone = rw (idle, built, alone) refl
 
 -- where nothing can be done, it is quiet
-pub none_first : (x : Rank) (scripts : AllScripts) → IsSoloJob scripts → Still x → NoNextCall x scripts → IsQuiet (x ∷ []) scripts
-none_first x scripts job still none = record {
+pub none_first : (x : Rank) (scripts : AllScripts) → IsSoloJob scripts → x.setting.ranks ≡ 1 → ((op : Op) → is_alone_in x.local op ≡ true) → Still x → NoNextCall x scripts → IsQuiet (x ∷ []) scripts
+none_first x scripts job one alone still none = record {
   still = λ c e. calm c.rank c.act e;
   ended = ends;
 } where
   call_there : (op : Op) → is_idle (thread_at x 0).waits ≡ true → next_op scripts 0 0 (thread_at x 0).calls ≡ Some op → is_enabled x (Call 0 op) ≡ true
-  call_there op idle e = can_call x op idle (built_at (script_of scripts 0 0) (thread_at x 0).calls op job.built e)
+  call_there op idle e = can_call x op idle (subst (λ (n : ℕ). is_built n op ≡ true) (sym one) (built_at (script_of scripts 0 0) (thread_at x 0).calls op job.built e)) (alone op)
 
   at_end : is_idle (thread_at x 0).waits ≡ true → (found : Option Op) → next_op scripts 0 0 (thread_at x 0).calls ≡ found → found ≡ None
   at_end idle None e = refl

@@ -5,4 +5,3 @@ mod Cuts
 mod Spelled
 mod Written
 mod Examples
-mod Texts

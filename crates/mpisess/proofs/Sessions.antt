@@ -1,25 +1,27 @@
 -- What was read, and what was run of it.
-use Rattle.std.proofs.Common.{◌≡◌, ℕ, zero, suc, ◌+◌, ◌<◌, ◌≤◌, Bool, true, false, List, [], ◌∷◌, length, get_or, take, Option, Result, Err, refl, sym, ap, ◌∙◌, subst, arith, min}
+use Rattle.std.proofs.Common.{◌≡◌, ℕ, zero, suc, ◌+◌, ◌<◌, ◌≤◌, Bool, true, false, List, [], ◌⊎◌, length, get_or, take, Option, Some, Result, Err, refl, sym, ap, ◌∙◌, subst, inl, inr, arith, min}
 use Rattle.std.proofs.lemmas.List.{take_all, length-take}
-use Rattle.std.specs.List.{AllByRecursion}
 use Rattle.std.specs.Result.{IsErrAnd}
 use Rattle.mpi_base.specs.declared.entries.Entry.{Entry}
 use Rattle.mpi_base.specs.declared.ops.Op.{Op}
 use Rattle.mpi_law.specs.Registry.{IsRegistryRun, registry_opening, registry_after}
 use Rattle.mpi_law.specs.Closed.{is_closed}
-use Rattle.mpi_law.specs.ScriptLists.{AllScripts, script_of, is_built}
+use Rattle.mpi_law.specs.ScriptLists.{AllScripts, script_of}
 use Rattle.mpi_protocol.specs.World.{opening}
 use Rattle.mpi_protocol.specs.Run.{end_of, events_of, calls_of}
 use Rattle.mpi_protocol.specs.Order.{IsDrained, IsQuiet}
-use Rattle.mpisess.specs.Input.{ReadsFront}
-use Rattle.mpisess.specs.Script.{lines_of, Spell, IsSoloScript}
+use Rattle.mpisess.specs.Input.{ReadsFront, ReadsAll, ReadsWhole, TellsLong}
+use Rattle.mpisess.specs.Script.{lines_of, IsSoloScript, IsFault}
 use Rattle.mpisess.specs.Solo.{solo_of}
 use Rattle.mpisess.specs.declared.session.Status.{Status}
-use Rattle.mpisess.specs.declared.session.Status.TheVariants.{Fine, Usage, BadJob, ReadFault, WriteFault, Memory}
-use Rattle.mpisess.specs.declared.script.ScriptError.{ScriptError}
-use Rattle.mpisess.specs.declared.script.ScriptError.TheVariants as script
+use Rattle.mpisess.specs.declared.session.Status.TheVariants.{Fine, WriteFault, TooLong, Memory}
+use Rattle.mpisess.specs.declared.session.Stop.{Stop}
+use Rattle.mpisess.specs.declared.session.Stop.TheVariants as stop
+use Rattle.mpisess.specs.declared.faults.JobFault.{JobFault}
+use Rattle.mpisess.specs.declared.faults.ScriptError.{ScriptError}
+use Rattle.mpisess.specs.declared.faults.ScriptError.TheVariants as script
 use Rattle.mpisess.specs.Job.{solo_setting, IsSoloJob, IsDrainedRun}
-use Rattle.mpisess.specs.Session.{ReadsAll, TellsScript, TellsNoScript, status_of_script, called_scripts, IsSoloRun}
+use Rattle.mpisess.specs.Session.{stop_status, stop_fault, stop_of_script, TellsScript, TellsFault, called_scripts, IsSoloRun}
 use Rattle.mpisess.proofs.Spelled.{spell_few}
 
 -- of an input that is not too long all was read
@@ -33,26 +35,26 @@ not_long most xs bytes e l = let m : length bytes ≡ min most (length xs) = ap 
 pub reads_all : (before after : Option (List ℕ)) (bytes : List ℕ) → ReadsFront 4194305 before bytes after → ReadsAll before after
 reads_all before after bytes r = record { left = λ xs e. (r xs e).1 }
 
--- the input is no script where what was read is none
-pub tells_none : (before after : Option (List ℕ)) (bytes seen : List ℕ) → ReadsFront 4194305 before bytes after → seen ≡ bytes → ((ops : List Op) → IsSoloScript seen ops → ⊥) → TellsNoScript before
-tells_none before after bytes seen r same none = record { none = λ xs ops e script. none ops (subst (λ (ys : List ℕ). IsSoloScript ys ops) (sym (same ∙ whole 4194305 xs bytes (r xs e).0 (omega (arith, script.short)))) script) }
+-- an input of which not too much was read was read whole
+pub reads_whole : (before after : Option (List ℕ)) (bytes : List ℕ) → ReadsFront 4194305 before bytes after → length bytes ≤ 4194304 → ReadsWhole before bytes
+reads_whole before after bytes r few = λ xs e.
+    let l = not_long 4194305 xs bytes (r xs e).0 (omega (arith, few)) in
+    (whole 4194305 xs bytes (r xs e).0 l, omega (arith, l))
 
--- and is this script where what was read is it
-pub tells_script : (before after : Option (List ℕ)) (bytes seen : List ℕ) (ops calls : List Op) → ReadsFront 4194305 before bytes after → seen ≡ bytes → IsSoloScript seen ops → calls ≡ ops → TellsScript before calls
-tells_script before after bytes seen ops calls r same script called = record {
-  script = λ xs e.
-      let short : length bytes < 4194305 = subst (λ (ys : List ℕ). length ys < 4194305) same (omega (arith, script.short)) in
-      let is = same ∙ whole 4194305 xs bytes (r xs e).0 (not_long 4194305 xs bytes (r xs e).0 short) in
-      rw called (subst (λ (ys : List ℕ). IsSoloScript ys ops) is script);
+-- and one of which more was read is too long
+pub tells_long : (before after : Option (List ℕ)) (bytes : List ℕ) → ReadsFront 4194305 before bytes after → 4194304 < length bytes → TellsLong before
+tells_long before after bytes r many = record { long = λ xs e. (let m : length bytes ≡ min 4194305 (length xs) = ap length (r xs e).0 ∙ length-take 4194305 xs in omega (arith, m, many)) }
+
+-- what is wrong with what was read is wrong with the input
+pub tells_fault : (before : Option (List ℕ)) (bytes seen : List ℕ) (fault : JobFault) → ReadsWhole before bytes → seen ≡ bytes → IsFault seen fault → TellsFault before fault
+tells_fault before bytes seen fault r same f = record { told = λ xs e. subst (λ (ys : List ℕ). IsFault ys fault) (same ∙ (r xs e).0) f; short = λ xs e. (r xs e).1 }
+
+-- the input is this script where what was read is it
+pub tells_script : (before : Option (List ℕ)) (bytes seen : List ℕ) (ops calls : List Op) → ReadsWhole before bytes → seen ≡ bytes → IsSoloScript seen ops → calls ≡ ops → TellsScript before calls
+tells_script before bytes seen ops calls r same script called = record {
+  script = λ xs e. rw called (subst (λ (ys : List ℕ). IsSoloScript ys ops) (same ∙ (r xs e).0) script);
+  short = λ xs e. (r xs e).1;
 }
-
--- what lines spell may be called yet
-spell_built : (lines : List (List ℕ)) (ops : List Op) → Spell lines ops → AllByRecursion (λ op. is_built op ≡ true) ops
-spell_built [] [] p = tt
-spell_built [] (op ∷ ops) p = absurd p
-spell_built ([] ∷ lines) ops p = spell_built lines ops p
-spell_built ((b ∷ bs) ∷ lines) [] p = tt
-spell_built ((b ∷ bs) ∷ lines) (op ∷ ops) p = (p.0.built, spell_built lines ops p.1)
 
 -- thread 0 alone has a script
 no_other : (ops : List Op) (t : ℕ) → 1 ≤ t → get_or (solo_of ops).lists t [] ≡ []
@@ -74,7 +76,7 @@ pub solo_job : (bytes : List ℕ) (scripts : AllScripts) → scripts ≡ solo_of
 solo_job bytes scripts solo script = record {
   ranks = ap (λ (s : AllScripts). s.ranks) solo;
   alone = λ t l. ap (λ (s : AllScripts). script_of s 0 t) solo ∙ alone (script_of scripts 0 0) t l;
-  built = spell_built (lines_of bytes) _ script.spelled;
+  built = script.built;
   few = let l = spell_few (lines_of bytes) (script_of scripts 0 0) script.spelled in let k = script.few in omega (arith, l, k);
 }
 
@@ -94,17 +96,43 @@ solo_run scripts journal solo calls drained quiet registry closed =
 
 -- the sink failed
 abbrev pub is_write_fault : Status → Bool
-is_write_fault Fine = false
-is_write_fault Usage = false
-is_write_fault BadJob = false
-is_write_fault ReadFault = false
 is_write_fault WriteFault = true
-is_write_fault Memory = false
+is_write_fault _ = false
 
--- only a script that is not built makes a bad job
-not_built : (e : ScriptError) → BadJob ≡ status_of_script e → e ≡ script.NotBuilt
-not_built script.NotBuilt h = refl
-not_built script.Memory h = absurd (cc h)
+-- a session that stops for a fault of the job was stopped by the script
+script_fault : (e : ScriptError) (fault : JobFault) → stop.BadJob fault ≡ stop_of_script e → e ≡ script.Fault fault
+script_fault (script.Fault f) fault h = let same : fault ≡ f = cc (h) in ap script.Fault (sym same)
+script_fault script.Memory fault h = absurd (cc (h))
 
-pub bad_is_not_built : {A : Type 0} (r : Result A Status) (e : ScriptError) → r ≡ Err BadJob → IsErrAnd r (λ status. status ≡ status_of_script e) → e ≡ script.NotBuilt
-bad_is_not_built r e bad holds = not_built e (subst (λ (s : Result _ Status). IsErrAnd s (λ status. status ≡ status_of_script e)) bad holds)
+pub stopped_by : {A : Type 0} (r : Result A Stop) (e : ScriptError) (fault : JobFault) → r ≡ Err (stop.BadJob fault) → IsErrAnd r (λ s. s ≡ stop_of_script e) → e ≡ script.Fault fault
+stopped_by r e fault bad holds = script_fault e fault (subst (λ (s : Result _ Stop). IsErrAnd s (λ s. s ≡ stop_of_script e)) bad holds)
+
+-- What stopped a session, where the source tells its bytes and did not fail
+
+module _ (before : Option (List ℕ)) (bytes : List ℕ) (is : before ≡ Some bytes) (why : Stop) (calm : why ≡ stop.ReadFault → ⊥) (long : why ≡ stop.TooLong → TellsLong before) (bad : (fault : JobFault) → why ≡ stop.BadJob fault → TellsFault before fault) where
+  pub stops_script : (ops : List Op) → length bytes ≤ 4194304 → ((fault : JobFault) → IsFault bytes fault → ⊥) → (stop_status why ≡ Fine) ⊎ (stop_status why ≡ Memory)
+  stops_script ops few none = go why refl
+    where
+      go : (w : Stop) → why ≡ w → (stop_status w ≡ Fine) ⊎ (stop_status w ≡ Memory)
+      go stop.ReadFault e = absurd (calm e)
+      go stop.TooLong e = let l = (long e).long bytes is in absurd (omega (arith, l, few))
+      go (stop.BadJob fault) e = absurd (none fault ((bad fault e).told bytes is))
+      go stop.Memory e = inr refl
+
+  pub stops_fault : (fault : JobFault) → length bytes ≤ 4194304 → ((other : JobFault) → IsFault bytes other → other ≡ fault) → (stop_fault why ≡ Some fault) ⊎ (stop_status why ≡ Memory)
+  stops_fault fault few one = go why refl
+    where
+      go : (w : Stop) → why ≡ w → (stop_fault w ≡ Some fault) ⊎ (stop_status w ≡ Memory)
+      go stop.ReadFault e = absurd (calm e)
+      go stop.TooLong e = let l = (long e).long bytes is in absurd (omega (arith, l, few))
+      go (stop.BadJob other) e = inl (ap Some (one other ((bad other e).told bytes is)))
+      go stop.Memory e = inr refl
+
+  pub stops_long : 4194304 < length bytes → (stop_status why ≡ TooLong) ⊎ (stop_status why ≡ Memory)
+  stops_long many = go why refl
+    where
+      go : (w : Stop) → why ≡ w → (stop_status w ≡ TooLong) ⊎ (stop_status w ≡ Memory)
+      go stop.ReadFault e = absurd (calm e)
+      go stop.TooLong e = inl refl
+      go (stop.BadJob other) e = let l = (bad other e).short bytes is in absurd (omega (arith, l, many))
+      go stop.Memory e = inr refl

@@ -4,21 +4,22 @@ use Rattle.std.specs.List.{AllByRecursion}
 use Rattle.mpi_base.specs.declared.entries.Entry.{Entry}
 use Rattle.mpi_law.specs.declared.setting.Setting.{Setting}
 use Rattle.mpi_law.specs.declared.setting.TheConstants.{MOST_CONTEXTS}
+use Rattle.pset_reg.specs.Sets.{start_of}
 use Rattle.mpi_law.specs.ScriptLists.{AllScripts, script_of, is_built}
 use Rattle.mpi_protocol.specs.World.{opening}
 use Rattle.mpi_protocol.specs.Run.{IsProtocolRun}
 use Rattle.mpi_protocol.specs.Order.{IsDrained}
 use Rattle.run_law.specs.Solo.{IsSolo}
 
--- one rank, and the contexts from 1 to 63
+-- one rank, the contexts from 1 to 63, and the two process sets that are always there
 abbrev pub solo_setting : Setting
-solo_setting = record { ranks = 1; contexts = MOST_CONTEXTS }
+solo_setting = record { ranks = 1; contexts = MOST_CONTEXTS; psets = start_of 1 }
 
 -- the scripts of a job with one rank, of which thread 0 alone has one, at most 4,096 operations that may be called yet
 pub record IsSoloJob (scripts : AllScripts) : Type 0 where
   pub ranks : scripts.ranks ≡ 1
   pub alone : IsSolo scripts
-  pub built : AllByRecursion (λ op. is_built op ≡ true) (script_of scripts 0 0)
+  pub built : AllByRecursion (λ op. is_built 1 op ≡ true) (script_of scripts 0 0)
   pub few : length (script_of scripts 0 0) ≤ 4096
 
 -- the journal of a run by the drain's order

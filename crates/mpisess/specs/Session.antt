@@ -1,5 +1,5 @@
 -- What the statuses of a session of the program mean.
-use Rattle.std.specs.Prelude.{◌≡◌, ℕ, Bool, true, false, List, [], ◌∷◌, String, string_bytes, bytes_eq, codes, drop, Option, Some, None}
+use Rattle.std.specs.Prelude.{◌≡◌, ℕ, ◌≤◌, Bool, true, false, List, [], ◌∷◌, length, String, string_bytes, bytes_eq, codes, Option, Some, None}
 use Rattle.std.specs.declared.alloc.Global.{Global}
 use Rattle.mpi_base.specs.declared.entries.Entry.{Entry}
 use Rattle.mpi_base.specs.declared.ops.Op.{Op}
@@ -10,15 +10,16 @@ use Rattle.mpi_protocol.specs.World.{opening}
 use Rattle.mpi_protocol.specs.Run.{IsProtocolRun, end_of, events_of, calls_of}
 use Rattle.mpi_protocol.specs.Order.{IsDrained, IsQuiet}
 use Rattle.mpisess.specs.declared.session.Status.{Status}
-use Rattle.mpisess.specs.declared.session.Status.TheVariants.{Fine, Usage, BadJob, ReadFault, WriteFault, Memory}
-use Rattle.mpisess.specs.declared.session.JobFault.{JobFault}
+use Rattle.mpisess.specs.declared.session.Status.TheVariants.{Fine, Usage, BadJob, ReadFault, WriteFault, TooLong, Memory}
+use Rattle.mpisess.specs.declared.session.Stop.{Stop}
+use Rattle.mpisess.specs.declared.session.Stop.TheVariants as stop
+use Rattle.mpisess.specs.declared.faults.JobFault.{JobFault}
 use Rattle.mpisess.specs.declared.input.InputError.{InputError}
 use Rattle.mpisess.specs.declared.input.InputError.TheVariants as input
-use Rattle.mpisess.specs.declared.script.ScriptError.{ScriptError}
-use Rattle.mpisess.specs.declared.script.ScriptError.TheVariants as script
-use Rattle.mpisess.specs.declared.session.JobFault.TheVariants.{NotBuilt}
+use Rattle.mpisess.specs.declared.faults.ScriptError.{ScriptError}
+use Rattle.mpisess.specs.declared.faults.ScriptError.TheVariants as script
 use Rattle.mpisess.specs.Job.{solo_setting}
-use Rattle.mpisess.specs.Script.{IsSoloScript}
+use Rattle.mpisess.specs.Script.{IsSoloScript, IsFault}
 use Rattle.mpisess.specs.Solo.{solo_of}
 
 -- the words of the command line are the one word solo
@@ -34,16 +35,18 @@ status_number Usage = 1
 status_number BadJob = 2
 status_number ReadFault = 4
 status_number WriteFault = 5
+status_number TooLong = 6
 status_number Memory = 7
 
 -- the command line was not understood
 abbrev pub is_usage : Status → Bool
-is_usage Fine = false
 is_usage Usage = true
-is_usage BadJob = false
-is_usage ReadFault = false
-is_usage WriteFault = false
-is_usage Memory = false
+is_usage _ = false
+
+-- the input is no job
+abbrev pub is_bad_job : Status → Bool
+is_bad_job BadJob = true
+is_bad_job _ = false
 
 -- the input was read as far as it may be read
 abbrev pub was_read : Status → Bool
@@ -52,55 +55,45 @@ was_read Usage = false
 was_read BadJob = true
 was_read ReadFault = false
 was_read WriteFault = true
+was_read TooLong = true
 was_read Memory = false
 
 -- the job was run to its end
 abbrev pub was_run : Status → Bool
 was_run Fine = true
-was_run Usage = false
-was_run BadJob = false
-was_run ReadFault = false
 was_run WriteFault = true
-was_run Memory = false
+was_run _ = false
 
--- what each error of reading or of parsing makes of the session
-abbrev pub status_of_input : InputError → Status
-status_of_input input.Fault = ReadFault
-status_of_input input.Memory = Memory
+-- the status of a session that stopped before its job was run, and what was wrong with the job
+abbrev pub stop_status : Stop → Status
+stop_status stop.ReadFault = ReadFault
+stop_status stop.TooLong = TooLong
+stop_status (stop.BadJob fault) = BadJob
+stop_status stop.Memory = Memory
 
-abbrev pub status_of_script : ScriptError → Status
-status_of_script script.NotBuilt = BadJob
-status_of_script script.Memory = Memory
+abbrev pub stop_fault : Stop → Option JobFault
+stop_fault (stop.BadJob fault) = Some fault
+stop_fault _ = None
 
--- the statuses of a session that stopped before its job was run
-abbrev pub stops_there : Status → Bool
-stops_there Fine = false
-stops_there Usage = false
-stops_there BadJob = true
-stops_there ReadFault = true
-stops_there WriteFault = false
-stops_there Memory = true
+-- why a session stops where the input, or the script, was not read
+abbrev pub stop_of_input : InputError → Stop
+stop_of_input input.Fault = stop.ReadFault
+stop_of_input input.TooLong = stop.TooLong
+stop_of_input input.Memory = stop.Memory
 
--- what was wrong with the job
-abbrev pub fault_of : Status → Option JobFault
-fault_of Fine = None
-fault_of Usage = None
-fault_of BadJob = Some NotBuilt
-fault_of ReadFault = None
-fault_of WriteFault = None
-fault_of Memory = None
+abbrev pub stop_of_script : ScriptError → Stop
+stop_of_script (script.Fault fault) = stop.BadJob fault
+stop_of_script script.Memory = stop.Memory
 
--- a source that tells its bytes was read to its end, or to the byte after the most that an input may have
-pub record ReadsAll (before after : Option (List ℕ)) : Type 0 where
-  pub left : (xs : List ℕ) → before ≡ Some xs → after ≡ Some (drop 4194305 xs)
-
--- where the source tells its bytes, they are the bytes of this script
+-- where the source tells its bytes, they are the bytes of this script, at most 4 MiB
 pub record TellsScript (before : Option (List ℕ)) (ops : List Op) : Type 0 where
   pub script : (xs : List ℕ) → before ≡ Some xs → IsSoloScript xs ops
+  pub short : (xs : List ℕ) → before ≡ Some xs → length xs ≤ 4194304
 
--- where the source tells its bytes, they are not the bytes of any script
-pub record TellsNoScript (before : Option (List ℕ)) : Type 0 where
-  pub none : (xs : List ℕ) (ops : List Op) → before ≡ Some xs → IsSoloScript xs ops → ⊥
+-- where the source tells its bytes, this is wrong with them, which are at most 4 MiB
+pub record TellsFault (before : Option (List ℕ)) (fault : JobFault) : Type 0 where
+  pub told : (xs : List ℕ) → before ≡ Some xs → IsFault xs fault
+  pub short : (xs : List ℕ) → before ≡ Some xs → length xs ≤ 4194304
 
 -- the scripts of a journal: thread 0 has the operations that it calls in it, and no other thread has any
 abbrev pub called_scripts : List Entry → AllScripts

@@ -1,7 +1,7 @@
 //! The input of the program: all bytes of a source, up to a limit.
-ghost use Rattle.std.specs.Prelude.{◌≡◌, ◌≤◌, ◌+◌, length, is_some, IfOk, OnOk};
+ghost use Rattle.std.specs.Prelude.{◌≡◌, ◌≤◌, ◌+◌, true, Err, length, is_some, IfOk, OnOk};
 ghost use Rattle.io_edge.specs.Counts.{Rose};
-ghost use Rattle.mpisess.specs.Input.{ReadsFront};
+ghost use Rattle.mpisess.specs.Input.{ReadsFront, ReadsWhole, ReadsAll, TellsLong, was_ended};
 
 use io_edge::{Failed, Source};
 use std::alloc::{AllocError, Global};
@@ -17,6 +17,8 @@ const PIECE: usize = 4_096;
 pub(crate) enum InputError {
     /// The source failed, and counted the fault.
     Fault,
+    /// There are more than [`MOST_BYTES`] bytes.
+    TooLong,
     /// No memory was left.
     Memory,
 }
@@ -45,16 +47,21 @@ impl From<AllocError> for InputError {
 
 /// Reads to the end of input, or to byte [`MOST_BYTES`] + 1 where the input is longer.
 pub(crate) fn read_input<S: Source>(alloc: Global, source: &mut S) -> Result<Vec<u8>, InputError>
-    ensures short { IfOk result (λ bytes. length bytes.items ≤ MOST_BYTES + 1) }
-    ensures read { IfOk result (λ bytes. ReadsFront (MOST_BYTES + 1) (S.left source.old) bytes.items (S.left source.new)) }
-    ensures same_count { OnOk result (S.faults source.new ≡ S.faults source.old) }
+    ensures read { IfOk result (λ bytes. ReadsWhole (S.left source.old) bytes.items) }
+    ensures long { result ≡ Err InputError.TooLong → TellsLong (S.left source.old) }
+    ensures all { was_ended result ≡ true → ReadsAll (S.left source.old) (S.left source.new) }
+    ensures same_count { was_ended result ≡ true → S.faults source.new ≡ S.faults source.old }
     ensures failed { result ≡ Err InputError.Fault → Rose (S.faults source.old) (S.faults source.new) }
     // Want of memory is no fault of the source.
     ensures memory { result ≡ Err InputError.Memory → S.faults source.new ≡ S.faults source.old }
     ensures never_falls { S.faults source.old ≤ S.faults source.new }
     ensures tells { is_some (S.left source.new) ≡ is_some (S.left source.old) }
 {
-    read_front(alloc, source, MOST_BYTES + 1)
+    let bytes = read_front(alloc, source, MOST_BYTES + 1)?;
+    if bytes.len() > MOST_BYTES {
+        return Err(InputError::TooLong);
+    }
+    Ok(bytes)
 }
 
 /// Reads so many bytes, or to the end of input where there are fewer.
@@ -64,6 +71,7 @@ fn read_front<S: Source>(alloc: Global, source: &mut S, most: usize) -> Result<V
     ensures same_count { OnOk result (S.faults source.new ≡ S.faults source.old) }
     ensures failed { result ≡ Err InputError.Fault → Rose (S.faults source.old) (S.faults source.new) }
     ensures memory { result ≡ Err InputError.Memory → S.faults source.new ≡ S.faults source.old }
+    ensures not_long { result ≡ Err InputError.TooLong → ⊥ }
     ensures never_falls { S.faults source.old ≤ S.faults source.new }
     ensures tells { is_some (S.left source.new) ≡ is_some (S.left source.old) }
 {

@@ -2,7 +2,9 @@
 //! output. Faults go to standard error.
 #![tactic(auto)]
 
+mod faults;
 mod input;
+mod lines;
 mod output;
 mod run;
 mod script;
@@ -12,7 +14,9 @@ mod session_tests;
 #[cfg(test)]
 mod tests;
 
+use faults::JobFault;
 use io_edge::{StdSink, StdSource};
+use script_text::FaultKind;
 use session::{Status, mpisess_calm};
 use std::alloc::Global;
 use std::process::ExitCode;
@@ -26,37 +30,48 @@ usage: mpisess solo < SCRIPT > JOURNAL
        mpisess --help
        mpisess --version";
 
-const NOT_BUILT: &str = "\
-standard input is no script that can be run: it has more than 4,194,304 bytes or 4,096 lines, or a line
-that is neither blank nor one of
-  session NAME
-  pset NAME mpi://SELF -> NAME
-  create NAME STRING -> NAME
-  dup NAME -> NAME
-  free NAME
-each with one space between its words and none at its ends";
-
 const HELP: &str = "\
 usage: mpisess solo < SCRIPT > JOURNAL
 
 Runs the script of one rank and writes a line for each step, with each reply.
 
 The lines of a script:
-  session NAME                  opens a session
-  pset NAME mpi://SELF -> NAME  makes the group of a process set
-  create NAME STRING -> NAME    makes a communicator from a group and a string tag
-  dup NAME -> NAME              duplicates a communicator
-  free NAME                     frees a communicator
+  session NAME                    opens a session
+  psets NAME                      tells how many process sets there are
+  nth NAME NUM                    tells the name of a process set
+  info NAME PSET                  tells the size of a process set
+  pset NAME PSET -> NAME          makes the group of a process set
+  union NAME NAME -> NAME         makes a group of two; also intersect, difference
+  incl NAME LIST -> NAME          makes a group of listed ranks; also excl
+  range_incl NAME RANGES -> NAME  makes a group of ranges of ranks; also range_excl
+  translate NAME LIST NAME        tells ranks of one group as ranks of another
+  compare NAME NAME               compares groups
+  size NAME, rank NAME            tell the size of a group, and the rank in it
+  gfree NAME                      frees a group
+  create NAME STRING -> NAME      makes a communicator from a group and a string tag
+  dup NAME -> NAME                duplicates a communicator
+  group NAME -> NAME              makes the group of a communicator
+  ccompare NAME NAME              compares communicators
+  csize NAME, crank NAME          tell the size of a communicator, and the rank in it
+  free NAME                       frees a communicator
+Spaces stand between the words. Blank lines and lines that begin with # are passed.
 
 The process ends with 0 where the journal was written, 1 where the words were not understood, 2 where
-the script cannot be run, 4 or 5 where reading or writing failed, and 7 where no memory was left.";
+the script cannot be run, 4 or 5 where reading or writing failed, 6 where the script has more than
+4,194,304 bytes, and 7 where no memory was left.";
+
+/// How the program ended, and what was wrong with the job.
+type Outcome = (Status, Option<JobFault>);
 
 fn main(rt: HostRuntime) -> ExitCode {
-    let status = match command_words(&rt) {
+    let (status, fault) = match command_words(&rt) {
         Ok(words) => answer(&rt, &words),
-        Err(status) => status,
+        Err(status) => (status, None),
     };
-    let _ = complain(&rt, status);
+    let _ = match fault {
+        Some(fault) => complain_of_job(&rt, fault),
+        None => complain(&rt, status),
+    };
     ExitCode::from(status.number())
 }
 
@@ -74,14 +89,15 @@ fn command_words(rt: &(impl Env + Alloc<A = Global>)) -> Result<Vec<String>, Sta
 }
 
 /// Answers the words of the command line.
-fn answer(rt: &(impl Input + Print + Alloc<A = Global>), words: &[String]) -> Status {
+fn answer(rt: &(impl Input + Print + Alloc<A = Global>), words: &[String]) -> Outcome {
     match words {
-        [word] if word.as_str() == "--help" => printed(rt.println(HELP)),
-        [word] if word.as_str() == "--version" => printed(rt.println(VERSION)),
+        [word] if word.as_str() == "--help" => (printed(rt.println(HELP)), None),
+        [word] if word.as_str() == "--version" => (printed(rt.println(VERSION)), None),
         _ => {
             let mut source = StdSource::new(rt);
             let mut sink = StdSink::new(rt);
-            mpisess_calm(rt.alloc(), words, &mut source, &mut sink).status
+            let done = mpisess_calm(rt.alloc(), words, &mut source, &mut sink);
+            (done.status, done.fault)
         }
     }
 }
@@ -99,10 +115,52 @@ fn complain(rt: &impl Eprint, status: Status) -> io::Result<()> {
     let text = match status {
         Status::Fine => return Ok(()),
         Status::Usage => return rt.eprintln(USAGE),
-        Status::BadJob => NOT_BUILT,
+        Status::BadJob => "standard input is no script that can be run",
         Status::ReadFault => "standard input could not be read",
         Status::WriteFault => "standard output could not be written",
+        Status::TooLong => "standard input has more than 4,194,304 bytes",
         Status::Memory => "no memory was left",
     };
     eprintln!(rt; "mpisess: {text}")
+}
+
+/// Says on standard error what is wrong with the job, and where.
+fn complain_of_job(rt: &impl Eprint, fault: JobFault) -> io::Result<()> {
+    match fault {
+        JobFault::ScriptLong { rank, thread } => {
+            eprintln!(rt;
+                "mpisess: rank {rank}, thread {thread}: the script has more than 4,096 lines"
+            )
+        }
+        JobFault::Line {
+            rank,
+            thread,
+            line,
+            fault,
+        } => {
+            let column = fault.column;
+            let text = fault_text(fault.kind);
+            eprintln!(rt;
+                "mpisess: rank {rank}, thread {thread}, line {line}, column {column}: {text}"
+            )
+        }
+        JobFault::NotBuilt { rank, thread, line } => {
+            eprintln!(rt;
+                "mpisess: rank {rank}, thread {thread}, line {line}: this operation is not built yet"
+            )
+        }
+    }
+}
+
+/// A fault of a line in words, with what is wanted in its place.
+fn fault_text(kind: FaultKind) -> &'static str {
+    match kind {
+        FaultKind::UnknownWord => "unknown word",
+        FaultKind::Missing => "the line ends where one more word is wanted",
+        FaultKind::BadName => "a name, a process set or a string is wanted",
+        FaultKind::BadNumber => "a number in its range, or a list of numbers, is wanted",
+        FaultKind::BadHex => "an even number of hexadecimal digits, or - for no bytes, is wanted",
+        FaultKind::TooLong => "too long",
+        FaultKind::Extra => "the end of the line is wanted",
+    }
 }

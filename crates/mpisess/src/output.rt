@@ -1,13 +1,14 @@
 //! The output of the program: a journal, written to a sink.
-ghost use Rattle.std.specs.Prelude.{◌≡◌, ◌≤◌, true, false, is_ok, is_some, All, OnOk, OnErr};
+ghost use Rattle.std.specs.Prelude.{◌≡◌, ◌≤◌, false, is_ok, is_some, OnOk, OnErr};
 ghost use Rattle.io_edge.specs.Counts.{Rose};
 ghost use Rattle.io_edge.specs.Sink.{Takes, TakesFront};
-ghost use Rattle.history_text.specs.Text.{has_text, journal_text};
+ghost use Rattle.history_text.specs.Text.{journal_text};
 
 use history_text::write_entry;
 use io_edge::{Failed, Sink};
 use mpi_base::Entry;
-use script_text::{Line, put};
+use script_text::Line;
+use token_text::put;
 
 /// Writes all bytes, in as many pieces as the sink takes. After a fault a front of them, perhaps the
 /// empty one, has been written.
@@ -32,7 +33,6 @@ pub(crate) fn write_all<K: Sink>(sink: &mut K, bytes: &[u8]) -> Result<(), Faile
 /// Writes each entry's line with a line feed, and finishes the sink. After a fault a front of that
 /// text, perhaps the empty one or all of it, has been written.
 pub(crate) fn write_journal<K: Sink>(sink: &mut K, entries: &[Entry]) -> Result<(), Failed>
-    requires texts { All (λ e. has_text e ≡ true) entries.now }
     ensures whole { OnOk result (Takes (K.written sink.old) (journal_text entries.now) (K.written sink.new)) }
     ensures front { OnErr result (TakesFront (K.written sink.old) (journal_text entries.now) (K.written sink.new)) }
     ensures same_count { OnOk result (K.faults sink.new ≡ K.faults sink.old) }

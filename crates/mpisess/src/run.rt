@@ -1,5 +1,7 @@
 //! The drain: the script of one rank, run to its end.
 ghost use Rattle.std.specs.Prelude.{◌≡◌, ◌<◌, ◌≤◌, ◌^◌, ◌-◌, ◌∷◌, [], ℕ, true, IfOk, IfSome, IfNone, option_copied, All};
+ghost use Rattle.mpi_base.specs.declared.ops.Op.{Op as AnyOp};
+ghost use Rattle.mpi_law.specs.Local.{is_alone_in};
 ghost use Rattle.mpi_law.specs.ScriptLists.{next_op as next_op_of};
 ghost use Rattle.mpi_protocol.specs.Rank.{thread_at, round_of};
 ghost use Rattle.mpi_protocol.specs.Step.{is_enabled, Steps};
@@ -11,14 +13,21 @@ ghost use Rattle.mpisess.specs.Job.{solo_setting, IsSoloJob, IsDrainedRun};
 
 use mpi_base::{Act, Entry, Op, OutOfMemory};
 use mpi_law::{MOST_CONTEXTS, Scripts, Setting};
+use pset_reg::Psets;
 use rank_core::{Journal, RankState, StepKind};
 use std::alloc::Global;
 
-/// The setting of a job with one rank.
-const SETTING: Setting = Setting {
-    ranks: 1,
-    contexts: MOST_CONTEXTS,
-};
+/// The setting of a job with one rank: all contexts, and the process sets that are always there
+/// (MPI 4.0, 11.3.2).
+fn one_rank(alloc: Global) -> Result<Setting, OutOfMemory>
+    ensures { IfOk result (λ setting. setting ≡ solo_setting) }
+{
+    Ok(Setting {
+        ranks: 1,
+        contexts: MOST_CONTEXTS,
+        psets: Psets::start(alloc, 1)?,
+    })
+}
 
 /// Runs the script of thread 0 until nothing is left to do, each time making the first of the choices
 /// that may be made.
@@ -27,7 +36,8 @@ pub(crate) fn drain(alloc: Global, scripts: &Scripts) -> Result<Journal, OutOfMe
     ensures run { IfOk result (λ journal. IsDrainedRun scripts.now journal.entries) }
     ensures quiet { IfOk result (λ journal. IsQuiet (end_of solo_setting journal.entries) scripts.now) }
 {
-    let mut state = RankState::<1>::start(alloc, 0, &SETTING)?;
+    let setting = one_rank(alloc)?;
+    let mut state = RankState::<1>::start(alloc, 0, &setting)?;
     let mut journal = Journal::none(alloc);
     while let Some(act) = next_act(&state, scripts) {
         state.reserve()?;
@@ -37,9 +47,12 @@ pub(crate) fn drain(alloc: Global, scripts: &Scripts) -> Result<Journal, OutOfMe
     Ok(journal)
 }
 
-/// The first choice that the drain may make; None where nothing is left to do.
+/// The first choice that the drain may make; None where nothing is left to do. The rank is the only one, and
+/// any call may be made by it alone.
 fn next_act(state: &RankState<1>, scripts: &Scripts) -> Option<Act>
-    requires { IsSoloJob scripts.now }
+    requires job { IsSoloJob scripts.now }
+    requires one { state.now.state.setting.ranks ≡ 1 }
+    requires alone { (op : AnyOp) → is_alone_in state.now.state.local op ≡ true }
     ensures found { IfSome result (λ act. IsFirstChoice (state.now.state ∷ []) scripts.now (record { rank = 0; act = act })) }
     ensures none { IfNone result (IsQuiet (state.now.state ∷ []) scripts.now) }
 {
@@ -94,7 +107,7 @@ fn next_op(scripts: &Scripts, calls: u64) -> Option<&Op>
 fn make(state: &mut RankState<1>, act: Act) -> Entry
     requires enabled { is_enabled state.old.state act ≡ true }
     requires room { 1 ≤ state.old.spare }
-    requires sessions { state.old.state.local.sessions < 2 ^ 64 - 1 }
+    requires sessions { state.old.state.local.opened < 2 ^ 64 - 1 }
     requires calls { (t : ℕ) → (thread_at state.old.state t).calls < 2 ^ 64 - 1 }
     requires rounds { (key : Key) → round_of state.old.state.rounds key < 2 ^ 64 - 1 }
     requires creations { All (λ m. m.creations < 2 ^ 64 - 1) state.old.state.comms }

@@ -1,6 +1,6 @@
 //! A session of the program: a script is read from a source, run to its end, and its journal written
 //! to a sink.
-ghost use Rattle.std.specs.Prelude.{◌≡◌, ◌≤◌, ℕ, List, [], ◌∷◌, true, false, not, IfOk, IfErr, OnOk, Some, ◌⊎◌};
+ghost use Rattle.std.specs.Prelude.{◌≡◌, ◌≤◌, ◌<◌, ℕ, List, [], ◌∷◌, true, false, not, length, is_some, IfOk, IfErr, IfSome, OnOk, Some, Err, ◌⊎◌};
 ghost use Rattle.io_edge.specs.Counts.{Rose};
 ghost use Rattle.io_edge.specs.Sink.{Takes, TakesFront};
 ghost use Rattle.history_text.specs.Text.{journal_text};
@@ -11,13 +11,15 @@ ghost use Rattle.mpi_protocol.specs.World.{opening};
 ghost use Rattle.mpi_protocol.specs.Run.{IsProtocolRun, end_of, events_of, calls_of};
 ghost use Rattle.mpi_protocol.specs.Order.{IsDrained, IsQuiet};
 ghost use Rattle.mpisess.specs.Job.{solo_setting};
-ghost use Rattle.mpisess.specs.Script.{IsSoloScript};
-ghost use Rattle.mpisess.specs.Session.{is_solo_command, status_number, is_usage, was_read, was_run, stops_there, fault_of, ReadsAll, TellsScript, TellsNoScript, called_scripts, registry_left, IsSoloRun};
+ghost use Rattle.mpisess.specs.Input.{ReadsAll, TellsLong};
+ghost use Rattle.mpisess.specs.Script.{IsSoloScript, IsFault};
+ghost use Rattle.mpisess.specs.Session.{is_solo_command, status_number, is_usage, is_bad_job, was_read, was_run, stop_status, stop_fault, TellsScript, TellsFault, called_scripts, registry_left, IsSoloRun};
 
+use crate::faults::{JobFault, ScriptError};
 use crate::input::{InputError, read_input};
 use crate::output::write_journal;
 use crate::run::drain;
-use crate::script::{ScriptError, read_script};
+use crate::script::{read_script, scripts_tell};
 use io_edge::{Failed, Sink, Source};
 use mpi_base::OutOfMemory;
 use rank_core::Journal;
@@ -37,6 +39,8 @@ pub enum Status {
     ReadFault,
     /// The job was run, and the sink failed.
     WriteFault,
+    /// The input has more than 4,194,304 bytes.
+    TooLong,
     /// No memory was left.
     Memory,
 }
@@ -52,27 +56,47 @@ impl Status {
             Status::BadJob => 2,
             Status::ReadFault => 4,
             Status::WriteFault => 5,
+            Status::TooLong => 6,
             Status::Memory => 7,
+        }
+    }
+}
+
+/// Why a session stopped before its job was run.
+#[derive(Clone, Copy, Debug, PartialEq, Eq, Drop)]
+enum Stop {
+    /// The source failed.
+    ReadFault,
+    /// The input has more than 4,194,304 bytes.
+    TooLong,
+    /// The input is no job that can be run.
+    BadJob(JobFault),
+    /// No memory was left.
+    Memory,
+}
+
+impl Stop {
+    /// The status of the session.
+    fn status(self) -> Status
+        ensures { result ≡ stop_status self }
+    {
+        match self {
+            Stop::ReadFault => Status::ReadFault,
+            Stop::TooLong => Status::TooLong,
+            Stop::BadJob(_) => Status::BadJob,
+            Stop::Memory => Status::Memory,
         }
     }
 
     /// What was wrong with the job.
     fn fault(self) -> Option<JobFault>
-        ensures { result ≡ fault_of self }
+        ensures { result ≡ stop_fault self }
     {
         match self {
-            Status::BadJob => Some(JobFault::NotBuilt),
-            _ => None,
+            Stop::BadJob(fault) => Some(fault),
+            Stop::ReadFault | Stop::TooLong | Stop::Memory => None,
         }
     }
-}
-
-/// What is wrong with a job.
-#[derive(Clone, Copy, Debug, PartialEq, Eq, Drop)]
-pub enum JobFault {
-    /// The input has more than 4,194,304 bytes, or the script more than 4,096 lines, or some line that
-    /// has bytes spells no operation that may be called yet.
-    NotBuilt,
 }
 
 /// What a session leaves.
@@ -86,42 +110,43 @@ pub struct Done {
     pub fault: Option<JobFault>,
 }
 
-impl From<InputError> for Status {
+impl From<InputError> for Stop {
     ghost use Rattle.std.specs.Prelude.{◌≡◌};
-    ghost use Rattle.mpisess.specs.Session.{status_of_input};
+    ghost use Rattle.mpisess.specs.Session.{stop_of_input};
 
-    ghost from_gives = { λ value status. status ≡ status_of_input value };
+    ghost from_gives = { λ value stop. stop ≡ stop_of_input value };
 
-    fn from(error: InputError) -> Status {
+    fn from(error: InputError) -> Stop {
         match error {
-            InputError::Fault => Status::ReadFault,
-            InputError::Memory => Status::Memory,
+            InputError::Fault => Stop::ReadFault,
+            InputError::TooLong => Stop::TooLong,
+            InputError::Memory => Stop::Memory,
         }
     }
 }
 
-impl From<ScriptError> for Status {
+impl From<ScriptError> for Stop {
     ghost use Rattle.std.specs.Prelude.{◌≡◌};
-    ghost use Rattle.mpisess.specs.Session.{status_of_script};
+    ghost use Rattle.mpisess.specs.Session.{stop_of_script};
 
-    ghost from_gives = { λ value status. status ≡ status_of_script value };
+    ghost from_gives = { λ value stop. stop ≡ stop_of_script value };
 
-    fn from(error: ScriptError) -> Status {
+    fn from(error: ScriptError) -> Stop {
         match error {
-            ScriptError::NotBuilt => Status::BadJob,
-            ScriptError::Memory => Status::Memory,
+            ScriptError::Fault(fault) => Stop::BadJob(fault),
+            ScriptError::Memory => Stop::Memory,
         }
     }
 }
 
-impl From<OutOfMemory> for Status {
+impl From<OutOfMemory> for Stop {
     ghost use Rattle.std.specs.Prelude.{◌≡◌};
-    ghost use Rattle.mpisess.specs.declared.session.Status.TheVariants.{Memory};
+    ghost use Rattle.mpisess.specs.declared.session.Stop.TheVariants.{Memory};
 
-    ghost from_gives = { λ _ status. status ≡ Memory };
+    ghost from_gives = { λ _ stop. stop ≡ Memory };
 
-    fn from(_error: OutOfMemory) -> Status {
-        Status::Memory
+    fn from(_error: OutOfMemory) -> Stop {
+        Stop::Memory
     }
 }
 
@@ -142,8 +167,9 @@ pub fn mpisess_calm<S: Source, K: Sink>(
     // The command line.
     ensures usage { is_usage result.status ≡ not (is_solo_command words.now) }
     // The job and the faults.
-    ensures bad_job { result.status ≡ Status.BadJob → TellsNoScript (S.left source.old) }
-    ensures fault { result.fault ≡ fault_of result.status }
+    ensures bad_job { IfSome result.fault (TellsFault (S.left source.old)) }
+    ensures fault { is_some result.fault ≡ is_bad_job result.status }
+    ensures too_long { result.status ≡ Status.TooLong → TellsLong (S.left source.old) }
     ensures read_fault { result.status ≡ Status.ReadFault → Rose (S.faults source.old) (S.faults source.new) }
     ensures write_fault { result.status ≡ Status.WriteFault → Rose (K.faults sink.old) (K.faults sink.new) }
     ensures source_never_falls { S.faults source.old ≤ S.faults source.new }
@@ -168,15 +194,20 @@ pub fn mpisess_calm<S: Source, K: Sink>(
     ensures unfinished { result.status ≡ Status.WriteFault → K.finished sink.new ≡ false }
     ensures unwritten { was_run result.status ≡ false → sink.new ≡ sink.old }
     // Completeness.
-    ensures complete { (bytes : List ℕ) (ops : List Op) → is_solo_command words.now ≡ true → S.left source.old ≡ Some bytes → IsSoloScript bytes ops
+    ensures complete { (bytes : List ℕ) (ops : List Op) → is_solo_command words.now ≡ true → S.left source.old ≡ Some bytes → length bytes ≤ 4194304 → IsSoloScript bytes ops
         → (Rose (S.faults source.old) (S.faults source.new) → ⊥) → (Rose (K.faults sink.old) (K.faults sink.new) → ⊥) → (result.status ≡ Status.Fine) ⊎ (result.status ≡ Status.Memory) }
+    ensures complete_fault { (bytes : List ℕ) (fault : JobFault) → is_solo_command words.now ≡ true → S.left source.old ≡ Some bytes → length bytes ≤ 4194304 → IsFault bytes fault
+        → (Rose (S.faults source.old) (S.faults source.new) → ⊥) → (result.fault ≡ Some fault) ⊎ (result.status ≡ Status.Memory) }
+    ensures complete_long { (bytes : List ℕ) → is_solo_command words.now ≡ true → S.left source.old ≡ Some bytes → 4194304 < length bytes
+        → (Rose (S.faults source.old) (S.faults source.new) → ⊥) → (result.status ≡ Status.TooLong) ⊎ (result.status ≡ Status.Memory) }
 {
     if !is_solo(words) {
-        return without_journal(alloc, Status::Usage);
+        return without_journal(alloc, Status::Usage, None);
     }
+    scripts_tell();
     let journal = match run_input(alloc, source) {
         Ok(journal) => journal,
-        Err(status) => return without_journal(alloc, status),
+        Err(stop) => return without_journal(alloc, stop.status(), stop.fault()),
     };
     let status = match write_journal(sink, journal.as_slice()) {
         Ok(()) => Status::Fine,
@@ -200,29 +231,29 @@ fn is_solo(words: &[String]) -> bool
 }
 
 /// A session that ran nothing.
-fn without_journal(alloc: Global, status: Status) -> Done
+fn without_journal(alloc: Global, status: Status, fault: Option<JobFault>) -> Done
     ensures status { result.status ≡ status }
     ensures journal { result.journal.entries ≡ [] }
-    ensures fault { result.fault ≡ fault_of status }
+    ensures fault { result.fault ≡ fault }
 {
     Done {
         status,
         journal: Journal::none(alloc),
-        fault: status.fault(),
+        fault,
     }
 }
 
 /// Reads a script and runs it to its end.
-fn run_input<S: Source>(alloc: Global, source: &mut S) -> Result<Journal, Status>
+fn run_input<S: Source>(alloc: Global, source: &mut S) -> Result<Journal, Stop>
     ensures run { IfOk result (λ journal. IsSoloRun journal.entries) }
     ensures script { IfOk result (λ journal. TellsScript (S.left source.old) (calls_of 0 0 journal.entries)) }
     ensures reads_all { OnOk result (ReadsAll (S.left source.old) (S.left source.new)) }
     ensures reads_well { OnOk result (S.faults source.new ≡ S.faults source.old) }
-    ensures stops { IfErr result (λ status. stops_there status ≡ true) }
-    ensures bad_job { result ≡ Err Status.BadJob → TellsNoScript (S.left source.old) }
-    ensures bad_reads_all { result ≡ Err Status.BadJob → ReadsAll (S.left source.old) (S.left source.new) }
-    ensures bad_reads_well { result ≡ Err Status.BadJob → S.faults source.new ≡ S.faults source.old }
-    ensures read_fault { result ≡ Err Status.ReadFault → Rose (S.faults source.old) (S.faults source.new) }
+    ensures bad_job { (fault : JobFault) → result ≡ Err (Stop.BadJob fault) → TellsFault (S.left source.old) fault }
+    ensures too_long { result ≡ Err Stop.TooLong → TellsLong (S.left source.old) }
+    ensures read_fault { result ≡ Err Stop.ReadFault → Rose (S.faults source.old) (S.faults source.new) }
+    ensures stops_all { IfErr result (λ stop. was_read (stop_status stop) ≡ true → ReadsAll (S.left source.old) (S.left source.new)) }
+    ensures stops_well { IfErr result (λ stop. was_read (stop_status stop) ≡ true → S.faults source.new ≡ S.faults source.old) }
     ensures never_falls { S.faults source.old ≤ S.faults source.new }
 {
     let bytes = read_input(alloc, source)?;

@@ -1,8 +1,10 @@
 //! Sessions of the program, as examples.
 ghost use Rattle.std.specs.Prelude.{◌≤◌};
 
-use crate::session::{Done, JobFault, Status, mpisess_calm};
+use crate::faults::JobFault;
+use crate::session::{Done, Status, mpisess_calm};
 use io_edge::{MemorySink, MemorySource, SureSink, SureSource};
+use script_text::{FaultKind, LineFault};
 use std::alloc::Global;
 use std::test::Fail;
 
@@ -251,12 +253,109 @@ fn other_words_are_no_command(rt: HostRuntime) -> Result<(), Fail> {
     Ok(())
 }
 
+/// The fault at a line of thread 0 of rank 0.
+fn at_line(line: u32, column: usize, kind: FaultKind) -> JobFault {
+    JobFault::Line {
+        rank: 0,
+        thread: 0,
+        line,
+        fault: LineFault { column, kind },
+    }
+}
+
 #[test]
-fn a_line_that_is_not_built_is_a_bad_job(rt: HostRuntime) -> Result<(), Fail> {
-    let mut sink = sink(rt.alloc(), 7, None)?;
-    let done = solo(rt.alloc(), b"session s\nunion g g -> h\n", &mut sink)?;
-    assert_eq!(rt; done.status.number(), 2);
-    assert_eq!(rt; done.fault, Some(JobFault::NotBuilt));
-    assert_eq!(rt; sink.bytes(), b"".as_slice());
+fn bad_jobs_are_told_with_their_place(rt: HostRuntime) -> Result<(), Fail> {
+    let not_built = JobFault::NotBuilt {
+        rank: 0,
+        thread: 0,
+        line: 2,
+    };
+    for (script, fault) in [
+        (
+            b"session s\ndup c > d".as_slice(),
+            at_line(2, 7, FaultKind::UnknownWord),
+        ),
+        (b"session s\nsend c 0 1 -\nwait r", not_built),
+        (
+            b"session s\nsend c 0 1 -\ndup c ->",
+            at_line(3, 9, FaultKind::Missing),
+        ),
+        (
+            b"\n# send\nsend c 0 1 0g",
+            at_line(3, 12, FaultKind::BadHex),
+        ),
+        (b"session s\r\r\n", at_line(1, 9, FaultKind::BadName)),
+    ] {
+        let mut sink = sink(rt.alloc(), 7, None)?;
+        let done = solo(rt.alloc(), script, &mut sink)?;
+        assert_eq!(rt; done.status.number(), 2);
+        assert_eq!(rt; done.fault, Some(fault));
+        assert_eq!(rt; sink.bytes(), b"".as_slice());
+    }
+    Ok(())
+}
+
+#[test]
+fn long_inputs_are_told(rt: HostRuntime) -> Result<(), Fail> {
+    let alloc = rt.alloc();
+    for (length, status, fault) in [
+        (4_096, Status::Fine, None),
+        (
+            4_097,
+            Status::BadJob,
+            Some(JobFault::ScriptLong { rank: 0, thread: 0 }),
+        ),
+        (4_194_305, Status::TooLong, None),
+    ] {
+        let mut source = SureSource::new(vec![in alloc; b'\n'; length]?, 4_096);
+        let mut sink = sink(alloc, 7, None)?;
+        let done = mpisess_calm(alloc, &words(alloc, "solo")?, &mut source, &mut sink);
+        assert_eq!(rt; done.status, status);
+        assert_eq!(rt; done.fault, fault);
+        assert_eq!(rt; sink.bytes(), b"".as_slice());
+    }
+    Ok(())
+}
+
+const REFUSALS: &[u8] = b"\
+session s
+session t
+pset s mpi://SELF -> g
+pset t mpi://SELF -> h
+union g h -> u
+psets s
+nth s 1
+nth s 2
+info s mpi://WORLD
+pset s mpi://SELF -> g
+difference g g -> n
+create n \"a\" -> c
+";
+
+const REFUSALS_JOURNAL: &[u8] = b"\
+0 call 0 session s => ok
+0 call 0 session t => ok
+0 call 0 pset s mpi://SELF -> g => group [0]
+0 call 0 pset t mpi://SELF -> h => group [0]
+0 call 0 union g h -> u => err MPI_ERR_SESSION
+0 call 0 psets s => psets 2
+0 call 0 nth s 1 => name mpi://SELF
+0 call 0 nth s 2 => err MPI_ERR_ARG
+0 call 0 info s mpi://WORLD => info mpi_size=1
+0 call 0 pset s mpi://SELF -> g => err MPI_ERR_ARG
+0 call 0 difference g g -> n => group []
+0 call 0 create n \"a\" -> c => null
+";
+
+#[test]
+fn refusals_are_the_same_in_any_pieces(rt: HostRuntime) -> Result<(), Fail> {
+    let alloc = rt.alloc();
+    for piece in [1, 7, 4_096] {
+        let mut source = SureSource::new(REFUSALS.to_vec(alloc)?, piece);
+        let mut sink = sink(alloc, 7, None)?;
+        let done = mpisess_calm(alloc, &words(alloc, "solo")?, &mut source, &mut sink);
+        assert_eq!(rt; done.status, Status::Fine);
+        assert_eq!(rt; sink.bytes(), REFUSALS_JOURNAL);
+    }
     Ok(())
 }

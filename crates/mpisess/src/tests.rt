@@ -1,8 +1,10 @@
 //! Input, scripts and output, as examples.
+use crate::faults::{JobFault, ScriptError};
 use crate::input::{InputError, MOST_BYTES, read_input};
+use crate::lines::MOST_LINES;
 use crate::output::{write_all, write_journal};
-use crate::script::{MOST_LINES, ScriptError, read_script};
-use io_edge::{Failed, MemorySink, MemorySource, SureSource};
+use crate::script::read_script;
+use io_edge::{Failed, MemorySink, MemorySource, Source, SureSource};
 use mpi_base::{Act, Choice, Entry, Name, Op, Reply};
 use script_text::read_line;
 use std::test::Fail;
@@ -28,13 +30,12 @@ fn input_fails_at_its_second_read(rt: HostRuntime) -> Result<(), Fail> {
 }
 
 #[test]
-fn longer_input_is_cut_and_no_script(rt: HostRuntime) -> Result<(), Fail> {
+fn longer_input_is_cut_and_too_long(rt: HostRuntime) -> Result<(), Fail> {
     let bytes = vec![in rt.alloc(); b'\n'; MOST_BYTES + 9]?;
     let mut source = SureSource::new(bytes, 4_000);
-    let input = read_input(rt.alloc(), &mut source)?;
-    assert_eq!(rt; input.len(), MOST_BYTES + 1);
-    let script = read_script(rt.alloc(), &input);
-    assert!(rt; script.is_err_and(|error| error == ScriptError::NotBuilt));
+    let input = read_input(rt.alloc(), &mut source);
+    assert!(rt; input.is_err_and(|error| error == InputError::TooLong));
+    assert_eq!(rt; source.read(&mut [0; 9]), Ok(8));
     Ok(())
 }
 
@@ -42,38 +43,18 @@ fn longer_input_is_cut_and_no_script(rt: HostRuntime) -> Result<(), Fail> {
 fn a_script_is_read_in_order(rt: HostRuntime) -> Result<(), Fail> {
     let lines = [
         b"session s".as_slice(),
-        b"pset s mpi://SELF -> g".as_slice(),
+        b"pset s mpi://WORLD -> g".as_slice(),
         b"create g \"a\" -> c".as_slice(),
     ];
-    let bytes = b"session s\npset s mpi://SELF -> g\ncreate g \"a\" -> c\n";
+    let bytes =
+        b"# a script\n session   s\r\n\n  # blank\npset s mpi://WORLD ->  g \ncreate g \"a\" -> c";
     let scripts = read_script(rt.alloc(), bytes)?;
     assert_eq!(rt; scripts.len(0, 0), 3);
     for (place, line) in lines.iter().enumerate() {
         let op = scripts.op(0, 0, place as u32).copy();
-        assert!(rt; read_line(line) == Some(op));
+        assert!(rt; read_line(line) == Ok(op));
     }
     Ok(())
-}
-
-#[test]
-fn blank_lines_are_passed(rt: HostRuntime) -> Result<(), Fail> {
-    for (bytes, count) in [(b"".as_slice(), 0), (b"\n\nsession s".as_slice(), 1)] {
-        let scripts = read_script(rt.alloc(), bytes)?;
-        assert_eq!(rt; scripts.len(0, 0), count);
-    }
-    Ok(())
-}
-
-#[test]
-fn other_lines_are_not_built(rt: HostRuntime) {
-    for bytes in [
-        b"union g g -> h".as_slice(),
-        b"pset s mpi://WORLD -> g".as_slice(),
-        b"session s\n ".as_slice(),
-    ] {
-        let script = read_script(rt.alloc(), bytes);
-        assert!(rt; script.is_err_and(|error| error == ScriptError::NotBuilt));
-    }
 }
 
 #[test]
@@ -85,7 +66,8 @@ fn a_script_has_at_most_so_many_lines(rt: HostRuntime) -> Result<(), Fail> {
     assert_eq!(rt; read_script(rt.alloc(), &bytes)?.len(0, 0), 4_096);
     bytes.push(b'\n')?;
     let script = read_script(rt.alloc(), &bytes);
-    assert!(rt; script.is_err_and(|error| error == ScriptError::NotBuilt));
+    let long = ScriptError::Fault(JobFault::ScriptLong { rank: 0, thread: 0 });
+    assert!(rt; script.is_err_and(|error| error == long));
     Ok(())
 }
 

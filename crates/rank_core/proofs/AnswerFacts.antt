@@ -4,6 +4,7 @@ use Rattle.std.proofs.lemmas.Bool.Decides.{nat_tests}
 use Rattle.mpi_base.specs.declared.keys.Key.{Key}
 use Rattle.mpi_base.specs.declared.entries.Act.TheVariants.{Answer}
 use Rattle.mpi_law.specs.declared.setting.TheConstants.{THREADS}
+use Rattle.mpi_law.specs.Local.{with_names}
 use Rattle.mpi_protocol.specs.declared.rows.Outcome.{Outcome}
 use Rattle.mpi_protocol.specs.declared.rows.Outcome.TheVariants as outcome
 use Rattle.mpi_protocol.specs.declared.rows.Stage.{Stage}
@@ -59,7 +60,7 @@ ended_with x t key target session o =
     record {
       state = record x {
         opened = close_creation x.opened key;
-        local = record { names = names_after x.local.names target session o; sessions = x.local.sessions };
+        local = with_names x.local (names_after x.local.names target session o);
         threads = with_thread x t (record { calls = (thread_at x t).calls; waits = Nothing });
       };
       said = None;
@@ -81,7 +82,7 @@ answer-step x t key target session o w s = rw (w, s) (ended-outcome x t key targ
 -- the state after an answer, from the parts of the state before it
 pub ended-state : (h k : Held) → h ≡ k → (t : ℕ) (key : Key) (target : List ℕ) (session : ℕ) (o : Outcome) (opened : List CreationRow) (threads : List ThreadRow) (new : Rank)
     → opened ≡ close_creation h.state.opened key → threads ≡ with_thread h.state t (record { calls = (thread_at h.state t).calls; waits = Nothing })
-    → new ≡ record h.state { opened = opened; threads = threads; local = record { names = names_after h.state.local.names target session o; sessions = h.state.local.sessions } }
+    → new ≡ record h.state { opened = opened; threads = threads; local = with_names h.state.local (names_after h.state.local.names target session o) }
     → new ≡ (ended_with k.state t key target session o).state
 ended-state h k e t key target session o opened threads new p q r =
     (rw (p, q) at r) ∙ ap (λ (h : Held). (ended_with h.state t key target session o).state) e

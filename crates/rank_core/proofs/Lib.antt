@@ -1,6 +1,5 @@
 pub mod CommFacts
 pub mod FrontFacts
-pub mod NameFacts
 pub mod GroupFacts
 pub mod AnswerFacts
 pub mod OfferFacts

@@ -3,9 +3,9 @@ use Rattle.std.specs.Prelude.{ℕ, List, length, Option, Some, None}
 use Rattle.mpi_base.specs.declared.errors.ErrClass.TheVariants as class
 use Rattle.mpi_base.specs.declared.replies.Reply.{Reply}
 use Rattle.mpi_base.specs.declared.replies.Reply.TheVariants as reply
-use Rattle.mpi_law.specs.declared.rows.Bound.TheVariants as bound
-use Rattle.mpi_law.specs.declared.rows.NameRow.{NameRow}
-use Rattle.mpi_law.specs.Local.{rebind, unbind}
+use Rattle.local_law.specs.Names.{Rows, rebind, unbind}
+use Rattle.local_law.specs.Objects.{Comm}
+use Rattle.mpi_law.specs.Local.{Bound}
 use Rattle.mpi_law.specs.Registry.{place_in}
 use Rattle.mpi_protocol.specs.declared.rows.Outcome.{Outcome}
 use Rattle.mpi_protocol.specs.declared.rows.Outcome.TheVariants as outcome
@@ -21,8 +21,8 @@ outcome_of (Some (Offered i own)) = None
 outcome_of (Some (Done o)) = Some o
 
 -- the target is bound to the communicator, or free again
-abbrev pub names_after : List NameRow → List ℕ → ℕ → Outcome → List NameRow
-names_after names target session (outcome.Context c) = rebind names target (bound.Comm c session)
+abbrev pub names_after : Rows Bound → List ℕ → ℕ → Outcome → Rows Bound
+names_after names target session (outcome.Context c) = rebind names target (Comm c session)
 names_after names target session outcome.Exhausted = unbind names target
 
 -- the communicator with the caller's place in it, or the cause

@@ -2,13 +2,22 @@
 #![tactic(auto)]
 
 mod agreement;
+mod answers;
 mod calls;
+mod comms;
+mod creations;
 mod frees;
+mod groups;
 mod journal;
+#[cfg(test)]
+mod local_tests;
+mod names;
 mod next;
 mod offers;
+mod plans;
 mod rank;
 mod rows;
+mod sets;
 #[cfg(test)]
 mod tests;
 

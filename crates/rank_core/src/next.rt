@@ -127,7 +127,9 @@ impl<const W: usize> RankState<W> {
         ensures { result ≡ is_enabled self.now.state (Act.Call thread op.now) }
     {
         match self.threads.get(thread as usize) {
-            Some(row) => is_idle(&row.waits) && is_built(op),
+            Some(row) => is_idle(&row.waits)
+                && is_built(self.setting.ranks, op)
+                && self.is_alone_in(op),
             None => false,
         }
     }

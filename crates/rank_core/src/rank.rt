@@ -1,6 +1,5 @@
 //! The state of a rank.
-ghost use Rattle.std.specs.Prelude.{◌≡◌, ◌==◌, ◌<◌, ◌≤◌, find, replicate, IfOk, OnOk, is_some, option_copied};
-ghost use Rattle.mpi_law.specs.Local.{bound_of};
+ghost use Rattle.std.specs.Prelude.{◌≡◌, ◌==◌, ◌<◌, ◌≤◌, find, replicate, IfOk, OnOk, option_copied};
 ghost use Rattle.mpi_law.specs.Settings.{IsSetting};
 ghost use Rattle.mpi_protocol.specs.Rank.{fresh, idle_thread, stage_of, round_of, session_of, session_in as session_within, thread_at, waits_on as is_waiting_on};
 ghost use Rattle.mpi_protocol.specs.Step.{empty_mask as empty_of};
@@ -8,15 +7,17 @@ ghost use Rattle.rank_core.specs.Limits.{HasPlaces};
 ghost use Rattle.rank_core.specs.Fronts.{front};
 
 use crate::offers::OfferRow;
+use bind_tab::Binds;
 use ctx_mask::Mask;
-use mpi_base::{Key, Name, OutOfMemory};
-use mpi_law::{Bound, NameRow, Setting, THREADS};
+use mpi_base::{Key, OutOfMemory};
+use mpi_law::{Setting, THREADS};
 use mpi_protocol::{CommRow, CreationRow, RoundRow, Stage, ThreadRow, Waits};
+use session_tab::Sessions;
 use std::alloc::Global;
 use std::marker::Model;
 
 /// One rank: what its threads have called, the creations that are open, the offers that it has
-/// gathered, its communicators and its names. Its mask has `W` words, from 1 to 32.
+/// gathered, its communicators, its names and its sessions. Its mask has `W` words, from 1 to 32.
 #[derive(Drop)]
 pub struct RankState<const W: usize> {
     pub(crate) rank: u16,
@@ -27,8 +28,8 @@ pub struct RankState<const W: usize> {
     pub(crate) gathered: Vec<OfferRow<W>>,
     pub(crate) rounds: Vec<RoundRow>,
     pub(crate) comms: Vec<CommRow>,
-    pub(crate) names: Vec<NameRow>,
-    pub(crate) sessions: u64,
+    pub(crate) names: Binds,
+    pub(crate) sessions: Sessions,
     pub(crate) threads: Vec<ThreadRow>,
 }
 
@@ -51,14 +52,14 @@ impl<const W: usize> Model for RankState<W> {
         gathered = map (offer_of r.setting.contexts) r.gathered.items;
         rounds = r.rounds.items;
         comms = r.comms.items;
-        local = record { names = r.names.items; sessions = r.sessions };
+        local = record { names = r.names.rows; live = map (λ id. id.serial) r.sessions.live; opened = r.sessions.count };
         threads = r.threads.items;
       };
       spare =
           min (vec_capacity r.opened - vec_len r.opened)
           (min (vec_capacity r.gathered - vec_len r.gathered)
           (min (vec_capacity r.rounds - vec_len r.rounds)
-          (min (vec_capacity r.comms - vec_len r.comms) (vec_capacity r.names - vec_len r.names))));
+          (min (vec_capacity r.comms - vec_len r.comms) (min r.names.spare r.sessions.spare))));
     } };
 
     ghost invariant = { λ r. IsRank W r.rank r.setting r.comms.items r.threads.items };
@@ -90,15 +91,15 @@ impl<const W: usize> RankState<W> {
         let threads = idle_threads(alloc)?;
         Ok(RankState {
             rank,
-            setting: *setting,
+            setting: setting.try_copy(alloc)?,
             mask: Mask::full(setting.contexts),
             owner: None,
             opened: Vec::new(alloc),
             gathered: Vec::new(alloc),
             rounds: Vec::new(alloc),
             comms: Vec::new(alloc),
-            names: Vec::new(alloc),
-            sessions: 0,
+            names: Binds::none(alloc),
+            sessions: Sessions::none(alloc),
             threads,
         })
     }
@@ -112,7 +113,8 @@ impl<const W: usize> RankState<W> {
         self.gathered.reserve(1)?;
         self.rounds.reserve(1)?;
         self.comms.reserve(1)?;
-        self.names.reserve(1)?;
+        self.names.reserve()?;
+        self.sessions.reserve()?;
         Ok(())
     }
 
@@ -122,21 +124,6 @@ impl<const W: usize> RankState<W> {
     {
         let _rank = self.rank;
         Mask::none()
-    }
-
-    /// What a name is bound to.
-    pub(crate) fn bound(&self, name: &Name) -> Option<&Bound>
-        ensures { option_copied result ≡ bound_of self.now.state.local.names name.now }
-    {
-        let row = self.names.iter().find(|row| row.name == *name)?;
-        Some(&row.bound)
-    }
-
-    /// Whether a name is bound.
-    pub(crate) fn is_bound(&self, name: &Name) -> bool
-        ensures { result ≡ is_some (bound_of self.now.state.local.names name.now) }
-    {
-        self.bound(name).is_some()
     }
 
     /// The communicator with a context; None where there is none here.
@@ -164,9 +151,9 @@ impl<const W: usize> RankState<W> {
 
     /// How many sessions this rank has opened.
     pub fn sessions(&self) -> u64
-        ensures { result ≡ self.now.state.local.sessions }
+        ensures { result ≡ self.now.state.local.opened }
     {
-        self.sessions
+        self.sessions.count()
     }
 
     /// The round whose offers this rank gathers for a creation, from 0.

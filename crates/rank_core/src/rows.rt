@@ -1,11 +1,9 @@
 //! Changes of rows.
 ghost use Rattle.std.specs.Prelude.{◌≡◌, ◌≤◌, ◌+◌, ◌-◌, ◌^◌, ◌<◌, ◌∷◌, ◌++◌, [], All, get_or, set, length};
-ghost use Rattle.mpi_law.specs.Local.{bind as names_with, rebind, unbind};
 ghost use Rattle.mpi_protocol.specs.Rank.{count_creation as counted_rows, set_comm_stage as comm_staged_rows, drop_comm as comms_without, return_threads as returned_rows, is_freeing as is_freeing_at, set_stage as staged_rows, close_creation as closed_rows, drop_round as dropped_rounds, set_round as round_put, idle_thread};
 ghost use Rattle.rank_core.specs.Rooms.{room_of};
 
-use mpi_base::{Key, Name};
-use mpi_law::{Bound, NameRow};
+use mpi_base::Key;
 use mpi_protocol::{CommRow, CommStage, CreationRow, RoundRow, Stage, ThreadRow, Waits};
 use std::mem;
 
@@ -96,35 +94,6 @@ pub(crate) fn drop_comm(comms: &mut Vec<CommRow>, ctx: u16)
     ensures room { room_of comms.old ≤ room_of comms.new }
 {
     comms.retain(|row| row.ctx != ctx);
-}
-
-/// Binds a name. There is room for it.
-pub(crate) fn bind(names: &mut Vec<NameRow>, name: Name, bound: Bound)
-    requires { 1 ≤ room_of names.old }
-    ensures rows { names.new.items ≡ names_with names.old.items name bound }
-    ensures room { room_of names.old ≤ room_of names.new + 1 }
-{
-    names.push_reserved(NameRow { name, bound });
-}
-
-/// Binds a name that is there to a communicator.
-pub(crate) fn bind_comm(names: &mut Vec<NameRow>, name: &Name, ctx: u16, session: u64)
-    ensures rows { names.new.items ≡ rebind names.old.items name.now (Bound.Comm ctx session) }
-    ensures room { room_of names.old ≤ room_of names.new }
-{
-    for row in names.iter_mut() {
-        if row.name == *name {
-            row.bound = Bound::Comm { comm: ctx, session };
-        }
-    }
-}
-
-/// Frees a name.
-pub(crate) fn free_name(names: &mut Vec<NameRow>, name: &Name)
-    ensures rows { names.new.items ≡ unbind names.old.items name.now }
-    ensures room { room_of names.old ≤ room_of names.new }
-{
-    names.retain(|row| row.name != *name);
 }
 
 /// What the thread waits for; it waits for nothing from now on.

@@ -6,9 +6,10 @@ use Rattle.mpi_base.specs.declared.keys.Key.{Key}
 use Rattle.mpi_base.specs.Keys.{same_key}
 use Rattle.mpi_base.proofs.KeyFacts.{same_key_is, same_key-refl}
 use Rattle.mpi_base.specs.declared.replies.Reply.TheVariants as reply
-use Rattle.mpi_law.specs.declared.rows.Bound.TheVariants.{Comm}
+use Rattle.local_law.specs.Objects.{Comm}
 use Rattle.mpi_law.specs.declared.setting.Setting.{Setting}
-use Rattle.mpi_law.specs.Local.{Local, rebind, unbind}
+use Rattle.local_law.specs.Names.{rebind, unbind}
+use Rattle.mpi_law.specs.Local.{with_names, NameRow, Local}
 use Rattle.mpi_law.specs.Registry.{Registry, RankPart, ThreadPart, Communicator, Outcome, Made, NoneFree, Wait, Idle, Creating, Freeing, Creation, blank_creation, idle_thread as idle_part, caller_of, part_of, thread_of, with_answer, after_reply, bind_outcome, owed, owed_to, outcome_reply, place_in, registry_next, called_on, comm_of, blank_comm, Replies}
 use Rattle.mpi_protocol.specs.declared.rows.Outcome.{Outcome as Ended}
 use Rattle.mpi_protocol.specs.declared.rows.Outcome.TheVariants as ended
@@ -26,7 +27,6 @@ use Rattle.run_law.proofs.Rows.{stage_of-close}
 use Rattle.run_law.proofs.Names.{NamesFit-rebind, NamesFit-unbind}
 use Rattle.run_law.proofs.Contexts.{Keeps, comm_of_is, is_numbered, called_on-set, one_key_of}
 use Rattle.run_law.proofs.Bindings.{apart_rebind, apart_unbind, other_rebind, other_unbind}
-use Rattle.mpi_law.specs.declared.rows.NameRow.{NameRow}
 use Rattle.mpi_base.specs.MemberLists.{has_rank}
 use Rattle.mpi_protocol.specs.declared.rows.CreationRow.{CreationRow}
 use Rattle.mpi_protocol.specs.Rank.{close_creation}
@@ -303,16 +303,16 @@ answer_done s w g r t key target session n (ended.Context c) j lt t8 waits part_
     let members = fit.1 in
     let made : outcome_reply g.comms r (Some (Made p)) ≡ Some (reply.Comm c (place_in (row_of g n).group r) (length (row_of g n).group)) = rw (context, members) refl in
     let said : Some (reply.Comm c (place_in key.members x.rank) (length key.members)) ≡ Some (reply.Comm c (place_in (row_of g n).group r) (length (row_of g n).group)) = rw (group, rank) refl in
-    let local : LocalFits g.comms r (record { names = rebind x.local.names target (Comm c session); sessions = x.local.sessions }) (bind_outcome (part_of g r).local (caller_of (row_of g n).callers r) (row_of g n).outcome) =
-    rw e (rw h.target_is (record { sessions = f.local.sessions; names = NamesFit-rebind g.comms r x.local.names (part_of g r).local.names target (Comm c session) (Comm p (caller_of (row_of g n).callers r).session) f.local.names (h.session_is, fit.0, fit.2) })) in
+    let local : LocalFits g.comms r (with_names x.local (rebind x.local.names target (Comm c session))) (bind_outcome (part_of g r).local (caller_of (row_of g n).callers r) (row_of g n).outcome) =
+    rw e (rw h.target_is (record { live = f.local.live; opened = f.local.opened; names = NamesFit-rebind g.comms r x.local.names (part_of g r).local.names target (Comm c session) (Comm p (caller_of (row_of g n).callers r).session) f.local.names (h.session_is, fit.0, fit.2) })) in
     let unbound : tally (binds c) x.local.names ≡ 0 = rw stage at h.unbound in
     ((there ∙ (made ∙ sym said), tt), rw part_waits (answer_joined s w g r t key target session n (ended.Context c) j lt t8 _ waits part_waits h stage (rw e refl) local (apart_rebind x.local.names target c session f.names unbound) (λ b ne z. other_rebind x.local.names target c session b ne z)))
 answer_done s w g r t key target session n ended.Exhausted j lt t8 waits part_waits h stage (Some NoneFree) e fit =
     let x = rank_at w r in
     let f = j.fits r lt in
     let there : owed g r t ≡ outcome_reply g.comms r (Some NoneFree) = ap (owed_to g r) part_waits ∙ ap (outcome_reply g.comms r) e in
-    let local : LocalFits g.comms r (record { names = unbind x.local.names target; sessions = x.local.sessions }) (bind_outcome (part_of g r).local (caller_of (row_of g n).callers r) (row_of g n).outcome) =
-    rw e (rw h.target_is (record { sessions = f.local.sessions; names = NamesFit-unbind g.comms r x.local.names (part_of g r).local.names target f.local.names })) in
+    let local : LocalFits g.comms r (with_names x.local (unbind x.local.names target)) (bind_outcome (part_of g r).local (caller_of (row_of g n).callers r) (row_of g n).outcome) =
+    rw e (rw h.target_is (record { live = f.local.live; opened = f.local.opened; names = NamesFit-unbind g.comms r x.local.names (part_of g r).local.names target f.local.names })) in
     ((there, tt), rw part_waits (answer_joined s w g r t key target session n ended.Exhausted j lt t8 _ waits part_waits h stage (rw e refl) local (apart_unbind x.local.names target f.names) (λ b ne z. other_unbind x.local.names target b z)))
 
 done_is : (o : Option Stage) → is_done o ≡ true → (d : Ended) × (o ≡ Some (Done d))

@@ -7,10 +7,9 @@ use Rattle.mpi_base.specs.MemberLists.{has_rank}
 use Rattle.mpi_base.specs.declared.keys.Key.{Key}
 use Rattle.mpi_base.specs.Keys.{same_key}
 use Rattle.mpi_base.proofs.KeyFacts.{same_key_is}
-use Rattle.mpi_law.specs.declared.rows.Bound.{Bound}
-use Rattle.mpi_law.specs.declared.rows.Bound.TheVariants as bound
-use Rattle.mpi_law.specs.declared.rows.NameRow.{NameRow}
+use Rattle.local_law.specs.Objects as bound
 use Rattle.mpi_law.specs.declared.setting.Setting.{Setting}
+use Rattle.mpi_law.specs.Local.{Bound, NameRow}
 use Rattle.mpi_law.specs.Registry.{Registry, Backs, Communicator, CreationName, RankPart, ThreadPart, Outcome, Wait, Idle, Creating, Freeing, MayBack, LiveApart, blank_comm, idle_thread as idle_part, comm_of, in_use, is_live_at, with_returned, stands_for, is_on, waits_on as waits_under, has_open, part_of, registry_next, give_back}
 use Rattle.mpi_protocol.specs.declared.rows.CommRow.{CommRow}
 use Rattle.mpi_protocol.specs.declared.rows.CommStage.{CommStage}
@@ -414,7 +413,7 @@ module _ (s : Setting) (w : List Rank) (g : Registry) (r c : ℕ) (j : Joined s 
       record {
         rank = f.rank;
         setting = f.setting;
-        local = record { sessions = f.local.sessions; names = NamesFit-kept g.comms new.comms r (λ a. true) (rank_at w r).local.names (part_of g r).local.names bound_stays (all_ok (rank_at w r).local.names) f.local.names };
+        local = record { live = f.local.live; opened = f.local.opened; names = NamesFit-kept g.comms new.comms r (λ a. true) (rank_at w r).local.names (part_of g r).local.names bound_stays (all_ok (rank_at w r).local.names) f.local.names };
         long = length-threads (rank_at w r).threads c ∙ f.long;
         long_part = f.long_part;
         calls = λ t. f.calls t ∙ sym (ap (λ (z : ThreadRow). z.calls) (get_or-threads (rank_at w r).threads c t) ∙ returned_calls c (thread_at (rank_at w r) t));

@@ -1,20 +1,13 @@
 -- Each name is bound once, and each communicator by one name, whatever a call or an answer binds.
-use Rattle.std.proofs.Common.{◌≡◌, ℕ, ◌+◌, ◌≤◌, ◌==◌, not, if◌then◌else◌, Bool, true, false, List, [], ◌∷◌, ◌++◌, filter, find, option_map, Option, Some, None, Result, Ok, Err, bytes_eq, refl, ap, subst, arith}
+use Rattle.std.proofs.Common.{◌≡◌, ℕ, ◌+◌, ◌≤◌, ◌==◌, not, if◌then◌else◌, Bool, true, false, List, [], ◌∷◌, ◌++◌, filter, find, option_map, Some, bytes_eq, refl, ap, subst, arith}
 use Rattle.std.specs.Option.{is_some}
 use Rattle.std.proofs.lemmas.Bool.Decides.{nat_tests}
-use Rattle.mpi_base.specs.declared.ops.Op.{Op}
-use Rattle.mpi_base.specs.declared.ops.Op.TheVariants as op
-use Rattle.mpi_base.specs.declared.replies.Reply.{Reply}
-use Rattle.mpi_base.specs.declared.replies.Reply.TheVariants.{Fine, Group}
-use Rattle.mpi_base.specs.declared.errors.ErrClass.{ErrClass}
-use Rattle.mpi_base.specs.declared.errors.ErrClass.TheVariants as class
 use Rattle.mpi_base.proofs.KeyFacts.{same_bytes}
-use Rattle.mpi_law.specs.declared.rows.Bound.{Bound}
-use Rattle.mpi_law.specs.declared.rows.Bound.TheVariants as bound
-use Rattle.mpi_law.specs.declared.rows.NameRow.{NameRow}
-use Rattle.mpi_law.specs.declared.setting.Setting.{Setting}
-use Rattle.mpi_law.specs.Local.{Local, Effect, Says, Joins, Frees, Origin, Grouped, Duplicated, ask, begin_creation, lacks, effect_of, refusal, and_then, refuse_if, as_session, as_group, as_set, as_comm, set_members, bound_of, bind, rebind, unbind}
+use Rattle.local_law.specs.Names.{bound_of, bind, rebind, unbind}
+use Rattle.local_law.specs.Objects as bound
+use Rattle.mpi_law.specs.Local.{Bound, NameRow, Local, Effect, Says, Joins, Frees}
 use Rattle.run_law.proofs.Lists.{tally, one}
+use Rattle.run_law.proofs.Shapes.{Shape, told, opened, grouped, ungrouped, asked, freed}
 use Rattle.run_law.proofs.Fits.{is_comm, binds, is_name, NamesApart}
 
 -- How many names pass a test
@@ -34,36 +27,36 @@ tally-filter p q (x ∷ xs) = let ih = tally-filter p q xs in go (q x) ih
 -- a name that is bound to nothing
 unbound_none : (names : List NameRow) (n : List ℕ) → is_some (bound_of names n) ≡ false → tally (is_name n) names ≡ 0
 unbound_none [] n e = refl
-unbound_none (x ∷ xs) n e = go (bytes_eq x.name n) refl e (unbound_none xs n)
+unbound_none (x ∷ xs) n e = go (bytes_eq x.0 n) refl e (unbound_none xs n)
   where
-    go : (b : Bool) → bytes_eq x.name n ≡ b → is_some (option_map (λ (q : NameRow). q.bound) (if b then Some x else find (λ (q : NameRow). bytes_eq q.name n) xs)) ≡ false → (is_some (bound_of xs n) ≡ false → tally (is_name n) xs ≡ 0) → one (bytes_eq x.name n) + tally (is_name n) xs ≡ 0
+    go : (b : Bool) → bytes_eq x.0 n ≡ b → is_some (option_map (λ (q : NameRow). q.1) (if b then Some x else find (λ (q : NameRow). bytes_eq q.0 n) xs)) ≡ false → (is_some (bound_of xs n) ≡ false → tally (is_name n) xs ≡ 0) → one (bytes_eq x.0 n) + tally (is_name n) xs ≡ 0
     go true t h ih = absurd (cc (h))
     go false t h ih = let z = ih h in grind (arith, t, z)
 
 -- a name that is bound to a communicator
 bound_some : (names : List NameRow) (n : List ℕ) (c s : ℕ) → bound_of names n ≡ Some (bound.Comm c s) → 1 ≤ tally (binds c) names
 bound_some [] n c s e = absurd (cc (e))
-bound_some (x ∷ xs) n c s e = go (bytes_eq x.name n) e (bound_some xs n c s)
+bound_some (x ∷ xs) n c s e = go (bytes_eq x.0 n) e (bound_some xs n c s)
   where
-    go : (b : Bool) → option_map (λ (q : NameRow). q.bound) (if b then Some x else find (λ (q : NameRow). bytes_eq q.name n) xs) ≡ Some (bound.Comm c s) → (bound_of xs n ≡ Some (bound.Comm c s) → 1 ≤ tally (binds c) xs) → 1 ≤ one (binds c x) + tally (binds c) xs
+    go : (b : Bool) → option_map (λ (q : NameRow). q.1) (if b then Some x else find (λ (q : NameRow). bytes_eq q.0 n) xs) ≡ Some (bound.Comm c s) → (bound_of xs n ≡ Some (bound.Comm c s) → 1 ≤ tally (binds c) xs) → 1 ≤ one (binds c x) + tally (binds c) xs
     go true h ih =
-        let is : x.bound ≡ bound.Comm c s = cc (h) in
-        let on : is_comm c x.bound ≡ true = rw is (grind (arith, nat_tests)) in
-        let o : one (is_comm c x.bound) ≡ 1 = ap one on in
+        let is : x.1 ≡ bound.Comm c s = cc (h) in
+        let on : is_comm c x.1 ≡ true = rw is (grind (arith, nat_tests)) in
+        let o : one (is_comm c x.1) ≡ 1 = ap one on in
         omega (arith, o)
     go false h ih = let z = ih h in omega (arith, z)
 
 -- a communicator whose one name is unbound has no name
 pub unbinds : (names : List NameRow) (n : List ℕ) (c s : ℕ) → bound_of names n ≡ Some (bound.Comm c s) → tally (binds c) names ≤ 1 → tally (binds c) (unbind names n) ≡ 0
 unbinds [] n c s e few = refl
-unbinds (x ∷ xs) n c s e few = go (bytes_eq x.name n) e (tally-filter (binds c) (λ (q : NameRow). not (bytes_eq q.name n)) xs) (bound_some xs n c s) (unbinds xs n c s)
+unbinds (x ∷ xs) n c s e few = go (bytes_eq x.0 n) e (tally-filter (binds c) (λ (q : NameRow). not (bytes_eq q.0 n)) xs) (bound_some xs n c s) (unbinds xs n c s)
   where
-    go : (b : Bool) → option_map (λ (q : NameRow). q.bound) (if b then Some x else find (λ (q : NameRow). bytes_eq q.name n) xs) ≡ Some (bound.Comm c s) → tally (binds c) (unbind xs n) ≤ tally (binds c) xs → (bound_of xs n ≡ Some (bound.Comm c s) → 1 ≤ tally (binds c) xs) → (bound_of xs n ≡ Some (bound.Comm c s) → tally (binds c) xs ≤ 1 → tally (binds c) (unbind xs n) ≡ 0)
+    go : (b : Bool) → option_map (λ (q : NameRow). q.1) (if b then Some x else find (λ (q : NameRow). bytes_eq q.0 n) xs) ≡ Some (bound.Comm c s) → tally (binds c) (unbind xs n) ≤ tally (binds c) xs → (bound_of xs n ≡ Some (bound.Comm c s) → 1 ≤ tally (binds c) xs) → (bound_of xs n ≡ Some (bound.Comm c s) → tally (binds c) xs ≤ 1 → tally (binds c) (unbind xs n) ≡ 0)
         → tally (binds c) (if not b then x ∷ unbind xs n else unbind xs n) ≡ 0
     go true h less some ih =
-        let is : x.bound ≡ bound.Comm c s = cc (h) in
-        let on : is_comm c x.bound ≡ true = rw is (grind (arith, nat_tests)) in
-        let o : one (is_comm c x.bound) ≡ 1 = ap one on in
+        let is : x.1 ≡ bound.Comm c s = cc (h) in
+        let on : is_comm c x.1 ≡ true = rw is (grind (arith, nat_tests)) in
+        let o : one (is_comm c x.1) ≡ 1 = ap one on in
         omega (arith, o, less, few)
     go false h less some ih =
         let z = some h in
@@ -74,8 +67,8 @@ unbinds (x ∷ xs) n c s e few = go (bytes_eq x.name n) e (tally-filter (binds c
 
 apart_bind : (names : List NameRow) (n : List ℕ) (b : Bound) → NamesApart names → is_some (bound_of names n) ≡ false → ((c : ℕ) → is_comm c b ≡ false) → NamesApart (bind names n b)
 apart_bind names n b a free plain = record {
-  each = λ m. rw (tally-snoc (is_name m) names (record { name = n; bound = b })) (go m (bytes_eq n m) refl (a.each m));
-  comms = λ c. (let t = tally-snoc (binds c) names (record { name = n; bound = b }) in let o : one (is_comm c b) ≡ 0 = ap one (plain c) in let k = a.comms c in omega (arith, t, o, k));
+  each = λ m. rw (tally-snoc (is_name m) names ((n, b))) (go m (bytes_eq n m) refl (a.each m));
+  comms = λ c. (let t = tally-snoc (binds c) names ((n, b)) in let o : one (is_comm c b) ≡ 0 = ap one (plain c) in let k = a.comms c in omega (arith, t, o, k));
 }
   where
     go : (m : List ℕ) (t : Bool) → bytes_eq n m ≡ t → tally (is_name m) names ≤ 1 → tally (is_name m) names + one (bytes_eq n m) ≤ 1
@@ -88,28 +81,28 @@ apart_bind names n b a free plain = record {
 
 pub apart_unbind : (names : List NameRow) (n : List ℕ) → NamesApart names → NamesApart (unbind names n)
 apart_unbind names n a = record {
-  each = λ m. (let t = tally-filter (is_name m) (λ (q : NameRow). not (bytes_eq q.name n)) names in let k = a.each m in omega (arith, t, k));
-  comms = λ c. (let t = tally-filter (binds c) (λ (q : NameRow). not (bytes_eq q.name n)) names in let k = a.comms c in omega (arith, t, k));
+  each = λ m. (let t = tally-filter (is_name m) (λ (q : NameRow). not (bytes_eq q.0 n)) names in let k = a.each m in omega (arith, t, k));
+  comms = λ c. (let t = tally-filter (binds c) (λ (q : NameRow). not (bytes_eq q.0 n)) names in let k = a.comms c in omega (arith, t, k));
 }
 
 rebind_names : (names : List NameRow) (n m : List ℕ) (b : Bound) → tally (is_name m) (rebind names n b) ≡ tally (is_name m) names
 rebind_names [] n m b = refl
-rebind_names (x ∷ xs) n m b = let ih = rebind_names xs n m b in go (bytes_eq x.name n) ih
+rebind_names (x ∷ xs) n m b = let ih = rebind_names xs n m b in go (bytes_eq x.0 n) ih
   where
-    go : (t : Bool) → tally (is_name m) (rebind xs n b) ≡ tally (is_name m) xs → one (is_name m (if t then record { name = x.name; bound = b } else x)) + tally (is_name m) (rebind xs n b) ≡ one (bytes_eq x.name m) + tally (is_name m) xs
+    go : (t : Bool) → tally (is_name m) (rebind xs n b) ≡ tally (is_name m) xs → one (is_name m (if t then (x.0, b) else x)) + tally (is_name m) (rebind xs n b) ≡ one (bytes_eq x.0 m) + tally (is_name m) xs
     go true ih = omega (arith, ih)
     go false ih = omega (arith, ih)
 
 -- a communicator gets as many names more as there are of this name
 pub rebind_comms : (names : List NameRow) (n : List ℕ) (c s d : ℕ) → tally (binds d) (rebind names n (bound.Comm c s)) ≤ tally (binds d) names + (if c == d then tally (is_name n) names else 0)
 rebind_comms [] n c s d = omega arith
-rebind_comms (x ∷ xs) n c s d = go (bytes_eq x.name n) refl (c == d) refl (rebind_comms xs n c s d)
+rebind_comms (x ∷ xs) n c s d = go (bytes_eq x.0 n) refl (c == d) refl (rebind_comms xs n c s d)
   where
-    go : (t : Bool) → bytes_eq x.name n ≡ t → (u : Bool) → (c == d) ≡ u → tally (binds d) (rebind xs n (bound.Comm c s)) ≤ tally (binds d) xs + (if u then tally (is_name n) xs else 0)
-        → one (binds d (if t then record { name = x.name; bound = bound.Comm c s } else x)) + tally (binds d) (rebind xs n (bound.Comm c s)) ≤ one (binds d x) + tally (binds d) xs + (if u then one (bytes_eq x.name n) + tally (is_name n) xs else 0)
-    go true e true v ih = let o : one (bytes_eq x.name n) ≡ 1 = ap one e in let q : one (c == d) ≡ 1 = ap one v in omega (arith, o, q, ih)
+    go : (t : Bool) → bytes_eq x.0 n ≡ t → (u : Bool) → (c == d) ≡ u → tally (binds d) (rebind xs n (bound.Comm c s)) ≤ tally (binds d) xs + (if u then tally (is_name n) xs else 0)
+        → one (binds d (if t then (x.0, bound.Comm c s) else x)) + tally (binds d) (rebind xs n (bound.Comm c s)) ≤ one (binds d x) + tally (binds d) xs + (if u then one (bytes_eq x.0 n) + tally (is_name n) xs else 0)
+    go true e true v ih = let o : one (bytes_eq x.0 n) ≡ 1 = ap one e in let q : one (c == d) ≡ 1 = ap one v in omega (arith, o, q, ih)
     go true e false v ih = let q : one (c == d) ≡ 0 = ap one v in omega (arith, q, ih)
-    go false e true v ih = let o : one (bytes_eq x.name n) ≡ 0 = ap one e in omega (arith, o, ih)
+    go false e true v ih = let o : one (bytes_eq x.0 n) ≡ 0 = ap one e in omega (arith, o, ih)
     go false e false v ih = omega (arith, ih)
 
 pub apart_rebind : (names : List NameRow) (n : List ℕ) (c s : ℕ) → NamesApart names → tally (binds c) names ≡ 0 → NamesApart (rebind names n (bound.Comm c s))
@@ -135,7 +128,7 @@ other_rebind names n c s d ne z = go (c == d) refl (rebind_comms names n c s d)
     go false e le = omega (arith, le, z)
 
 pub other_unbind : (names : List NameRow) (n : List ℕ) (d : ℕ) → tally (binds d) names ≡ 0 → tally (binds d) (unbind names n) ≡ 0
-other_unbind names n d z = let t = tally-filter (binds d) (λ (q : NameRow). not (bytes_eq q.name n)) names in omega (arith, t, z)
+other_unbind names n d z = let t = tally-filter (binds d) (λ (q : NameRow). not (bytes_eq q.0 n)) names in omega (arith, t, z)
 
 -- What a call binds
 
@@ -156,48 +149,31 @@ pub record EffectNames (names : List NameRow) (e : Effect) : Type 0 where
   pub unbound : (c : ℕ) → tally (binds c) names ≡ 0 → tally (binds c) (local_of e).names ≡ 0
   pub frees : FreesBound names e
 
-stays_so : (l : Local) (c : ErrClass) → NamesApart l.names → EffectNames l.names (refusal l (Err c))
-stays_so l c a = record { apart = a; unbound = λ d z. z; frees = tt }
-
-names_then : {A : Type 0} (l : Local) (r : Result A ErrClass) (f : A → Result Effect ErrClass) → NamesApart l.names → ((a : A) → r ≡ Ok a → EffectNames l.names (refusal l (f a))) → EffectNames l.names (refusal l (and_then r f))
-names_then l (Ok v) f a h = h v refl
-names_then l (Err e) f a h = stays_so l e a
-
-not_refused : (b v : Bool) (c : ErrClass) → refuse_if b c ≡ Ok v → b ≡ false
-not_refused true v c e = absurd (cc (e))
-not_refused false v c e = refl
-
-comm_is : (o : Option Bound) (c : ℕ × ℕ) → as_comm o ≡ Ok c → o ≡ Some (bound.Comm c.0 c.1)
-comm_is None c e = absurd (cc (e))
-comm_is (Some bound.Reserved) c e = absurd (cc (e))
-comm_is (Some (bound.Session s)) c e = absurd (cc (e))
-comm_is (Some (bound.Group ms s)) c e = absurd (cc (e))
-comm_is (Some (bound.Comm d s)) c e = let is : (d, s) ≡ c = cc (e) in ap (λ (q : ℕ × ℕ). Some (bound.Comm q.0 q.1)) is
-
 -- a name that was free is bound to something that is no communicator
 unbound_bind : (names : List NameRow) (n : List ℕ) (b : Bound) (c : ℕ) → is_comm c b ≡ false → tally (binds c) names ≡ 0 → tally (binds c) (bind names n b) ≡ 0
-unbound_bind names n b c plain z = let t = tally-snoc (binds c) names (record { name = n; bound = b }) in let o : one (is_comm c b) ≡ 0 = ap one plain in omega (arith, t, o, z)
+unbound_bind names n b c plain z = let t = tally-snoc (binds c) names ((n, b)) in let o : one (is_comm c b) ≡ 0 = ap one plain in omega (arith, t, o, z)
 
-says_bound : (l : Local) (n : List ℕ) (b : Bound) (sessions : ℕ) (said : Reply) → NamesApart l.names → is_some (bound_of l.names n) ≡ false → ((c : ℕ) → is_comm c b ≡ false) → EffectNames l.names (Says (record { names = bind l.names n b; sessions = sessions }) said)
-says_bound l n b sessions said a free plain = record { apart = apart_bind l.names n b a free plain; unbound = λ c z. unbound_bind l.names n b c (plain c) z; frees = tt }
-
-asks_bound : (l : Local) (origin : Origin) (n : List ℕ) (session : ℕ) → NamesApart l.names → is_some (bound_of l.names n) ≡ false → EffectNames l.names (ask l origin n session)
-asks_bound l origin n session a free = record { apart = apart_bind l.names n bound.Reserved a free (λ c. refl); unbound = λ c z. unbound_bind l.names n bound.Reserved c refl z; frees = tt }
-
-pub effect_names : (s : Setting) (rank : ℕ) (busy : List ℕ → List ℕ → Bool) (l : Local) (o : Op) → NamesApart l.names → EffectNames l.names (effect_of s rank busy l o)
-unfolding effect_of
-effect_names s rank busy l (op.Session target) a =
-    names_then l (refuse_if (is_some (bound_of l.names target)) class.Arg) _ a (λ q e. says_bound l target (bound.Session (l.sessions + 1)) (l.sessions + 1) Fine a (not_refused _ _ _ e) (λ c. refl))
-effect_names s rank busy l (op.Pset session set target) a =
-    names_then l (as_session (bound_of l.names session)) _ a (λ from e. names_then l (as_set (set_members s rank set)) _ a (λ members e1. names_then l (refuse_if (is_some (bound_of l.names target)) class.Arg) _ a (λ q e2. says_bound l target (bound.Group members from) l.sessions (Group members) a (not_refused _ _ _ e2) (λ c. refl))))
-effect_names s rank busy l (op.Create group tag target) a =
-    names_then l (as_group (bound_of l.names group)) _ a (λ g e. names_then l (refuse_if (lacks g.0 rank) class.Group) _ a (λ q e1. names_then l (refuse_if (is_some (bound_of l.names target)) class.Arg) _ a (λ q1 e2. names_then l (refuse_if (busy g.0 tag) class.Busy) _ a (λ q2 e3. begins g.0 g.1 (not_refused _ _ _ e2)))))
-  where
-    begins : (group : List ℕ) (session : ℕ) → is_some (bound_of l.names target) ≡ false → EffectNames l.names (begin_creation l group session tag target)
-    begins [] session free = record { apart = a; unbound = λ d z. z; frees = tt }
-    begins (m ∷ ms) session free = asks_bound l (Grouped (m ∷ ms) tag) target session a free
-effect_names s rank busy l (op.Dup comm target) a =
-    names_then l (as_comm (bound_of l.names comm)) _ a (λ c e. names_then l (refuse_if (is_some (bound_of l.names target)) class.Arg) _ a (λ q e1. asks_bound l (Duplicated c.0) target c.1 a (not_refused _ _ _ e1)))
-effect_names s rank busy l (op.Free comm) a =
-    names_then l (as_comm (bound_of l.names comm)) _ a (λ c e. record { apart = apart_unbind l.names comm a; unbound = λ d z. other_unbind l.names comm d z; frees = bound_some l.names comm c.0 c.1 (comm_is (bound_of l.names comm) c e) })
-effect_names s rank busy l _ a = record { apart = a; unbound = λ d z. z; frees = tt }
+-- what a call of any shape leaves of the names
+pub shape_names : (l : Local) (e : Effect) → NamesApart l.names → Shape l e → EffectNames l.names e
+shape_names l e a (told said) = record { apart = a; unbound = λ d z. z; frees = tt }
+shape_names l e a (opened target free) = record {
+  apart = apart_bind l.names target (bound.Session (l.opened + 1)) a free (λ c. refl);
+  unbound = λ c z. unbound_bind l.names target (bound.Session (l.opened + 1)) c refl z;
+  frees = tt;
+}
+shape_names l e a (grouped target members session free) = record {
+  apart = apart_bind l.names target (bound.Group members session) a free (λ c. refl);
+  unbound = λ c z. unbound_bind l.names target (bound.Group members session) c refl z;
+  frees = tt;
+}
+shape_names l e a (ungrouped group) = record { apart = apart_unbind l.names group a; unbound = λ d z. other_unbind l.names group d z; frees = tt }
+shape_names l e a (asked origin target session free) = record {
+  apart = apart_bind l.names target bound.Reserved a free (λ c. refl);
+  unbound = λ c z. unbound_bind l.names target bound.Reserved c refl z;
+  frees = tt;
+}
+shape_names l e a (freed comm c session there) = record {
+  apart = apart_unbind l.names comm a;
+  unbound = λ d z. other_unbind l.names comm d z;
+  frees = bound_some l.names comm c session there;
+}

@@ -11,27 +11,29 @@ use Rattle.mpi_base.specs.declared.ops.Op.{Op}
 use Rattle.mpi_base.specs.declared.replies.Reply.{Reply}
 use Rattle.mpi_law.specs.declared.setting.Setting.{Setting}
 use Rattle.mpi_law.specs.ScriptLists.{is_built}
-use Rattle.mpi_law.specs.Local.{Local, Asked, Effect, Says, Joins, Frees as FreesIt, effect_of}
-use Rattle.mpi_law.specs.Registry.{Registry, Calls, Replies, RankPart, ThreadPart, Creation, Caller, Outcome, Wait, Idle, Reply_now, Creating, Freeing, Communicator, MayCall, blank_creation, idle_thread as idle_part, caller_of, CreationName, Group_and_tag, same_name, name_of, group_of, called_on, is_on, stands_for, is_open, undecided_place, part_of, thread_of, after_effect, after_reply, effect_at, owed, owed_to, registry_next}
+use Rattle.mpi_law.specs.Local.{Local, is_alone_in, Asked, Effect, Says, Joins, Frees as FreesIt, effect_of}
+use Rattle.mpi_law.specs.Registry.{Registry, Calls, Replies, RankPart, ThreadPart, Creation, Caller, Outcome, Wait, Idle, Reply_now, Creating, Freeing, Communicator, MayCall, blank_creation, idle_thread as idle_part, caller_of, CreationName, same_name, name_of, group_of, called_on, is_on, stands_for, undecided_place, part_of, thread_of, after_effect, after_reply, effect_at, around, blank_comm, owed, owed_to, registry_next}
 use Rattle.mpi_protocol.specs.declared.rows.Stage.{Stage}
 use Rattle.mpi_protocol.specs.declared.rows.Stage.TheVariants.{Called}
 use Rattle.mpi_protocol.specs.declared.rows.Waits.{Waits}
 use Rattle.mpi_protocol.specs.declared.rows.Waits.TheVariants.{Nothing, Creation as Creates, Freeing as Frees, Returned}
 use Rattle.mpi_protocol.specs.declared.rows.ThreadRow.{ThreadRow}
-use Rattle.mpi_protocol.specs.Rank.{Rank, Offer, stage_of, round_of, thread_at, idle_thread, is_idle, waits_on}
+use Rattle.mpi_protocol.specs.Rank.{Rank, Offer, stage_of, round_of, thread_at, idle_thread, is_idle, waits_on, row_at, comm_at}
 use Rattle.mpi_protocol.specs.Agreement.{has_offer}
-use Rattle.mpi_protocol.specs.Step.{key_of, called, joined, is_open_here, empty_mask}
+use Rattle.mpi_protocol.specs.Step.{key_of, called, joined, is_open_here, around_here, empty_mask}
 use Rattle.mpi_protocol.specs.World.{rank_at}
 use Rattle.mpi_protocol.specs.Run.{reply_events}
 use Rattle.run_law.proofs.Lists.{get_or_past, tally, tally-set, one, get_or-append, get_or-last, length-snoc, All_map, All_snoc}
 use Rattle.run_law.proofs.Rows.{or_else, or_else_none, stage_of-open, has_offer-append}
 use Rattle.run_law.proofs.Creations.{undecided_is, undecided_bound, join-new}
-use Rattle.run_law.proofs.Names.{EffectFits, effect_fits}
+use Rattle.run_law.proofs.Names.{EffectFits, AroundFits, effect_fits, alone_same}
+use Rattle.run_law.proofs.Shapes.{effect_shape}
 use Rattle.run_law.proofs.Contexts.{Keeps, is_numbered, called_on-append, same_name_is, one_key_of}
 use Rattle.run_law.proofs.Asking.{Asks, asks}
-use Rattle.run_law.proofs.Bindings.{EffectNames, effect_names}
+use Rattle.run_law.proofs.Bindings.{EffectNames, shape_names}
 use Rattle.mpi_law.specs.Registry.{Made}
-use Rattle.run_law.proofs.Fits.{Unbound, Whole, LocalFits, StageFits, row_of, CreationFits, WaitFits, RankFits, OfferFits, offer_fits, round_fits, is_away, is_owned, Waited, Joined}
+use Rattle.mpi_protocol.specs.declared.rows.CommRow.{CommRow}
+use Rattle.run_law.proofs.Fits.{CommFits, Unbound, Whole, LocalFits, StageFits, row_of, CreationFits, WaitFits, RankFits, OfferFits, offer_fits, round_fits, is_away, is_owned, Waited, Joined}
 use Rattle.run_law.proofs.Grown.{Grows, WaitFits-same, unbound_on, CreationFits-grown, joined_step, threads_after}
 use Rattle.run_law.proofs.Own.{open_agrees, same_rank}
 use Rattle.run_law.proofs.Offers.{gathers}
@@ -50,7 +52,7 @@ idle_both g r x Returned b e f = absurd (cc (e))
 
 -- A reply at once
 
-module _ (s : Setting) (w : List Rank) (g : Registry) (r t : ℕ) (op : Op) (j : Joined s w g) (lt : r < s.ranks) (t8 : t < 8) (waits : (thread_at (rank_at w r) t).waits ≡ Nothing) (part_waits : (thread_of g r t).wait ≡ Idle) (built : is_built op ≡ true)
+module _ (s : Setting) (w : List Rank) (g : Registry) (r t : ℕ) (op : Op) (j : Joined s w g) (lt : r < s.ranks) (t8 : t < 8) (waits : (thread_at (rank_at w r) t).waits ≡ Nothing) (part_waits : (thread_of g r t).wait ≡ Idle) (built : is_built s.ranks op ≡ true) (alone : is_alone_in (part_of g r).local op ≡ true)
     (l m : Local) (said back : Reply) (effect : effect_at s g r op ≡ Says m back) (local : LocalFits g.comms r l m) (same : back ≡ said) (names : EffectNames (rank_at w r).local.names (Says l said)) where
   said_row : ThreadRow
   said_row = record { calls = (thread_at (rank_at w r) t).calls + 1; waits = Nothing }
@@ -131,7 +133,7 @@ module _ (s : Setting) (w : List Rank) (g : Registry) (r t : ℕ) (op : Op) (j :
   pub said_goes : Goes s g (Calls r t op true ∷ Replies r t said ∷ []) (set w r (record (rank_at w r) { local = l; threads = set (rank_at w r).threads t (record { calls = (thread_at (rank_at w r) t).calls + 1; waits = Nothing }) }))
   unfolding registry_next asked new now_part part said_part said_row y
   said_goes =
-      let may : MayCall s g r t op true = record { rank = lt; thread = t8; built = built; idle = rw part_waits refl; reply = rw effect refl } in
+      let may : MayCall s g r t op true = record { rank = lt; thread = t8; built = built; alone = alone; idle = rw part_waits refl; reply = rw effect refl } in
       let after : after_effect g r t (effect_at s g r op) ≡ asked = rw effect refl in
       let owes : owed asked r t ≡ Some said = ap (λ (z : ThreadPart). owed_to asked r z.wait) thread_asked ∙ ap (λ (q : Reply). Some q) same in
       let ends : after_reply asked r t (thread_of asked r t).wait ≡ new = ap (λ (z : ThreadPart). after_reply asked r t z.wait) thread_asked ∙ replied in
@@ -153,7 +155,7 @@ offer_some : (o : Option Stage) (own : Bool) → offer_fits o own ≡ true → i
 offer_some None own f = absurd (cc (f))
 offer_some (Some a) own f = refl
 
-module _ (s : Setting) (w : List Rank) (g : Registry) (r t : ℕ) (op : Op) (j : Joined s w g) (lt : r < s.ranks) (t8 : t < 8) (waits : (thread_at (rank_at w r) t).waits ≡ Nothing) (part_waits : (thread_of g r t).wait ≡ Idle) (built : is_built op ≡ true)
+module _ (s : Setting) (w : List Rank) (g : Registry) (r t : ℕ) (op : Op) (j : Joined s w g) (lt : r < s.ranks) (t8 : t < 8) (waits : (thread_at (rank_at w r) t).waits ≡ Nothing) (part_waits : (thread_of g r t).wait ≡ Idle) (built : is_built s.ranks op ≡ true) (alone : is_alone_in (part_of g r).local op ≡ true)
     (l m : Local) (a b : Asked) (effect : effect_at s g r op ≡ Joins m b) (local : LocalFits g.comms r l m) (target : b.target ≡ a.target) (session : b.session ≡ a.session) (q : Asks g r (rank_at w r) a.origin b.origin) (names : EffectNames (rank_at w r).local.names (Joins l a)) where
   key : Key
   key = key_of (rank_at w r) a.origin
@@ -427,30 +429,41 @@ module _ (s : Setting) (w : List Rank) (g : Registry) (r t : ℕ) (op : Op) (j :
   pub joined_goes : Goes s g (Calls r t op false ∷ []) (set w r (joined (rank_at w r) t l a))
   unfolding registry_next grown row caller part' joined_part y'
   joined_goes =
-      let may : MayCall s g r t op false = record { rank = lt; thread = t8; built = built; idle = rw part_waits refl; reply = rw effect refl } in
+      let may : MayCall s g r t op false = record { rank = lt; thread = t8; built = built; alone = alone; idle = rw part_waits refl; reply = rw effect refl } in
       let rows = join-new g.creations (name_of g r b.origin) (group_of g b.origin) caller none_open in
       let after : after_effect g r t (effect_at s g r op) ≡ grown = rw (effect, none_open, rows) refl in
       let whole : Joined s (set w r y') grown = joined_step s w g grown r y' part' j lt refl grows kept' whole' in
       ((may, tt), subst (λ (h : Registry). Joined s (set w r y') h) (sym after) whole)
 
+-- what a call looks at besides a rank's own objects
+around_fits : (s : Setting) (g : Registry) (r : ℕ) (x : Rank) → RankFits s g r x (part_of g r) → AroundFits g.comms r (around_here x) (around g r)
+around_fits s g r x f = record { members = λ c p e. go c (row_at x.comms c) refl p (subst (λ (z : Option ℕ). CommFits g r (row_at x.comms c) z) e (f.comms c)); busy = open_agrees s g r x f }
+  where
+    go : (c : ℕ) (o : Option CommRow) → row_at x.comms c ≡ o → (p : ℕ) → CommFits g r (row_at x.comms c) (Some p) → (get_or g.comms p blank_comm).members ≡ (comm_at x.comms c).members
+    go c None e p k = absurd (let z : CommFits g r None (Some p) = rw e at k in z)
+    go c (Some m) e p k = let z : CommFits g r (Some m) (Some p) = rw e at k in rw e (sym z.0)
+
 -- a call that is enabled
-pub call_goes : (s : Setting) (w : List Rank) (g : Registry) (r t : ℕ) (op : Op) → Joined s w g → r < s.ranks → t < 8 → is_idle (thread_at (rank_at w r) t).waits ≡ true → is_built op ≡ true
-    → Goes s g (Calls r t op (is_some (called (rank_at w r) t (effect_of (rank_at w r).setting (rank_at w r).rank (is_open_here (rank_at w r)) (rank_at w r).local op)).reply) ∷ reply_events r t (called (rank_at w r) t (effect_of (rank_at w r).setting (rank_at w r).rank (is_open_here (rank_at w r)) (rank_at w r).local op)).reply)
-    (set w r (called (rank_at w r) t (effect_of (rank_at w r).setting (rank_at w r).rank (is_open_here (rank_at w r)) (rank_at w r).local op)).state)
-call_goes s w g r t op j lt t8 idle built =
+pub call_goes : (s : Setting) (w : List Rank) (g : Registry) (r t : ℕ) (op : Op) → Joined s w g → r < s.ranks → t < 8 → is_idle (thread_at (rank_at w r) t).waits ≡ true → is_built s.ranks op ≡ true → is_alone_in (rank_at w r).local op ≡ true
+    → Goes s g (Calls r t op (is_some (called (rank_at w r) t (effect_of (rank_at w r).setting (rank_at w r).rank (around_here (rank_at w r)) (rank_at w r).local op)).reply) ∷ reply_events r t (called (rank_at w r) t (effect_of (rank_at w r).setting (rank_at w r).rank (around_here (rank_at w r)) (rank_at w r).local op)).reply)
+    (set w r (called (rank_at w r) t (effect_of (rank_at w r).setting (rank_at w r).rank (around_here (rank_at w r)) (rank_at w r).local op)).state)
+call_goes s w g r t op j lt t8 idle built alone =
     let x = rank_at w r in
     let f = j.fits r lt in
     let both = idle_both g r x (thread_at x t).waits (get_or (part_of g r).threads t idle_part).wait idle (f.waits t) in
-    let fits = effect_fits s g.comms r (is_open_here x) (λ group tag. is_open g r (Group_and_tag group tag)) (open_agrees s g r x f) x.local (part_of g r).local f.local f.names op built in
-    let names = effect_names s r (is_open_here x) x.local op f.names in
-    let same : effect_of x.setting x.rank (is_open_here x) x.local op ≡ effect_of s r (is_open_here x) x.local op = ap (λ (z : Setting). effect_of z x.rank (is_open_here x) x.local op) f.setting ∙ ap (λ (i : ℕ). effect_of s i (is_open_here x) x.local op) f.rank in
+    let fits = effect_fits g.comms r (around_here x) (around g r) (around_fits s g r x f) x.local (part_of g r).local f.local f.names s op alone in
+    let names = shape_names x.local (effect_of s r (around_here x) x.local op) f.names (effect_shape s r (around_here x) x.local op) in
+    let same : effect_of x.setting x.rank (around_here x) x.local op ≡ effect_of s r (around_here x) x.local op = ap (λ (z : Setting). effect_of z x.rank (around_here x) x.local op) f.setting ∙ ap (λ (i : ℕ). effect_of s i (around_here x) x.local op) f.rank in
     subst (λ (e : Effect). Goes s g (Calls r t op (is_some (called x t e).reply) ∷ reply_events r t (called x t e).reply) (set w r (called x t e).state)) (sym same)
-    (go both.0 both.1 (effect_of s r (is_open_here x) x.local op) (effect_at s g r op) refl fits names)
+    (go both.0 both.1 (effect_of s r (around_here x) x.local op) (effect_at s g r op) refl fits names)
   where
+    here : is_alone_in (part_of g r).local op ≡ true
+    here = alone_same g.comms r (rank_at w r).local (part_of g r).local (j.fits r lt).local op alone
+
     go : (thread_at (rank_at w r) t).waits ≡ Nothing → (thread_of g r t).wait ≡ Idle → (a b : Effect) → effect_at s g r op ≡ b → EffectFits g.comms r (is_open_here (rank_at w r)) a b → EffectNames (rank_at w r).local.names a
         → Goes s g (Calls r t op (is_some (called (rank_at w r) t a).reply) ∷ reply_events r t (called (rank_at w r) t a).reply) (set w r (called (rank_at w r) t a).state)
-    go wx wp (Says l said) (Says m back) e fit names = said_goes s w g r t op j lt t8 wx wp built l m said back e fit.0 fit.1 names
+    go wx wp (Says l said) (Says m back) e fit names = said_goes s w g r t op j lt t8 wx wp built here l m said back e fit.0 fit.1 names
     go wx wp (Joins l a) (Joins m b) e fit names =
-        joined_goes s w g r t op j lt t8 wx wp built l m a b e fit.0 fit.1 fit.2 (asks s g r (rank_at w r) (part_of g r) (j.fits r lt) a.origin b.origin fit.3) names
-    go wx wp (FreesIt l c) (FreesIt m p) e fit names = free_goes s w g r t op j lt t8 wx wp built l m c p e fit.0 fit.1 fit.2 fit.3 names
+        joined_goes s w g r t op j lt t8 wx wp built here l m a b e fit.0 fit.1 fit.2 (asks s g r (rank_at w r) (part_of g r) (j.fits r lt) a.origin b.origin fit.3) names
+    go wx wp (FreesIt l c) (FreesIt m p) e fit names = free_goes s w g r t op j lt t8 wx wp built here l m c p e fit.0 fit.1 fit.2 fit.3 names
     go wx wp a b e fit names = absurd fit

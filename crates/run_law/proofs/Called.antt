@@ -22,7 +22,7 @@ use Rattle.mpi_protocol.specs.declared.rows.Waits.TheVariants.{Nothing, Creation
 use Rattle.mpi_protocol.specs.declared.rows.ThreadRow.{ThreadRow}
 use Rattle.mpi_protocol.specs.Rank.{Rank, fresh, stage_of, round_of, thread_at, idle_thread}
 use Rattle.mpi_protocol.specs.Agreement.{verdict_of}
-use Rattle.mpi_protocol.specs.Step.{step, is_enabled, called, answered, if_done, if_waiting, settled, ended as ends, is_open_here}
+use Rattle.mpi_protocol.specs.Step.{step, is_enabled, called, answered, if_done, if_waiting, settled, ended as ends, around_here}
 use Rattle.mpi_protocol.specs.World.{opening, blank, rank_at, may_happen, moved, entry_at}
 use Rattle.mpi_protocol.specs.Run.{RunsFrom, world_after, IsProtocolRun, end_of, call_of, calls_of, entry_events, events_of}
 use Rattle.mpi_protocol.specs.Order.{IsOfScript, IsQuiet, IsDrained}
@@ -67,7 +67,7 @@ same_calls xs t u a e = go (set_place xs t a idle_thread u)
 -- a step counts the call that it is
 step_calls : (x : Rank) (a : Act) (u : ℕ) → ((t : ℕ) (op : Op) → a ≡ Call t op → t < length x.threads) → (thread_at (step x a).state u).calls ≡ (thread_at x u).calls + called_by u a
 unfolding step
-step_calls x (Call t op) u inside = go (effect_of x.setting x.rank (is_open_here x) x.local op)
+step_calls x (Call t op) u inside = go (effect_of x.setting x.rank (around_here x) x.local op)
   where
     go : (e : Effect) → (thread_at (called x t e).state u).calls ≡ (thread_at x u).calls + one (t == u)
     go (Says l r) = one_more x.threads t u _ (inside t op refl) refl

@@ -1,20 +1,15 @@
 -- Every counter of a rank is at most the length of the journal.
-use Rattle.std.proofs.Common.{◌≡◌, ◌≢◌, ◌⊎◌, ℕ, suc, ◌+◌, ◌<◌, ◌≤◌, nat_lt, if◌then◌else◌, Bool, true, false, List, [], ◌∷◌, length, get_or, set, replicate, Option, Some, None, Result, Ok, Err, refl, sym, ap, subst, inl, inr, arith, ◌==◌, not, ◌∙◌}
-use Rattle.std.specs.Option.{is_some}
+use Rattle.std.proofs.Common.{◌≡◌, ◌≢◌, ◌⊎◌, ℕ, suc, ◌+◌, ◌<◌, ◌≤◌, nat_lt, if◌then◌else◌, Bool, true, false, List, [], ◌∷◌, length, get_or, set, replicate, Option, Some, None, refl, sym, ap, subst, inl, inr, arith, ◌==◌, not, ◌∙◌}
 use Rattle.std.proofs.lemmas.Bool.Decides.{nat_tests}
 use Rattle.std.proofs.lemmas.List.FromFn.{get_or-map-range_with_len, length-map-range_with_len}
 use Rattle.mpi_base.specs.declared.keys.Key.{Key}
 use Rattle.mpi_base.specs.Keys.{same_key}
-use Rattle.mpi_base.specs.declared.ops.Op.{Op}
-use Rattle.mpi_base.specs.declared.ops.Op.TheVariants as op
-use Rattle.mpi_base.specs.declared.errors.ErrClass.{ErrClass}
-use Rattle.mpi_base.specs.declared.errors.ErrClass.TheVariants as class
 use Rattle.mpi_base.specs.declared.entries.Act.{Act}
 use Rattle.mpi_base.specs.declared.entries.Act.TheVariants.{Call, Answer, Deliver, Offer as MakeOffer, Settle, Leave, Back}
 use Rattle.mpi_base.specs.declared.entries.Choice.{Choice}
 use Rattle.mpi_base.specs.declared.entries.Entry.{Entry}
 use Rattle.mpi_law.specs.declared.setting.Setting.{Setting}
-use Rattle.mpi_law.specs.Local.{Local, Effect, Says, Joins, Frees, effect_of, refusal, begin_creation, and_then, refuse_if, as_session, as_group, as_set, set_members, lacks, bound_of, as_comm, Origin, Grouped, Duplicated}
+use Rattle.mpi_law.specs.Local.{Local, Effect, Says, Joins, Frees, Origin, Grouped, Duplicated, effect_of}
 use Rattle.mpi_protocol.specs.declared.rows.Outcome.TheVariants as ended
 use Rattle.mpi_protocol.specs.declared.rows.Stage.{Stage}
 use Rattle.mpi_protocol.specs.declared.rows.Stage.TheVariants.{Called, Waiting, Offered, Done}
@@ -25,13 +20,14 @@ use Rattle.mpi_protocol.specs.declared.rows.Waits.TheVariants.{Nothing, Creation
 use Rattle.mpi_protocol.specs.declared.rows.ThreadRow.{ThreadRow}
 use Rattle.mpi_protocol.specs.Rank.{Rank, fresh, stage_of, round_of, thread_at, idle_thread, count_creation}
 use Rattle.mpi_protocol.specs.Agreement.{verdict_of}
-use Rattle.mpi_protocol.specs.Step.{step, called, answered, if_done, if_waiting, settled, is_open_here, counted}
+use Rattle.mpi_protocol.specs.Step.{step, called, answered, if_done, if_waiting, settled, around_here, counted}
 use Rattle.mpi_protocol.specs.World.{opening, blank, rank_at, moved}
 use Rattle.mpi_protocol.specs.Run.{world_after, end_of}
 use Rattle.run_law.proofs.Runs.{get_or-replicate}
 use Rattle.std.specs.List.{AllByRecursion}
 use Rattle.run_law.proofs.Lists.{set_place, get_or_past, All_snoc, All_map}
 use Rattle.run_law.proofs.Bindings.{local_of}
+use Rattle.run_law.proofs.Shapes.{Shape, told, opened, grouped, ungrouped, asked, freed, effect_shape}
 use Rattle.run_law.proofs.BackSteps.{get_or-threads, returned_calls}
 use Rattle.mpi_protocol.specs.declared.rows.CommStage.{CommStage}
 use Rattle.mpi_protocol.specs.declared.rows.CommStage.TheVariants.{Freed, Left}
@@ -43,27 +39,15 @@ use Rattle.mpi_protocol.specs.declared.rows.CommRow.{CommRow}
 
 -- an operation opens at most one session
 abbrev Small : Local → Effect → Type 0
-Small l e = (local_of e).sessions ≤ l.sessions + 1
+Small l e = (local_of e).opened ≤ l.opened + 1
 
-small_then : {A : Type 0} (l : Local) (r : Result A ErrClass) (f : A → Result Effect ErrClass) → ((a : A) → Small l (refusal l (f a))) → Small l (refusal l (and_then r f))
-small_then l (Ok v) f h = h v
-small_then l (Err e) f h = omega arith
-
-begins_small : (l : Local) (group : List ℕ) (session : ℕ) (tag target : List ℕ) → Small l (begin_creation l group session tag target)
-begins_small l [] session tag target = omega arith
-begins_small l (m ∷ ms) session tag target = omega arith
-
-effect_small : (s : Setting) (rank : ℕ) (busy : List ℕ → List ℕ → Bool) (l : Local) (o : Op) → Small l (effect_of s rank busy l o)
-unfolding effect_of
-effect_small s rank busy l (op.Session target) = small_then l (refuse_if (is_some (bound_of l.names target)) class.Arg) _ (λ q. omega arith)
-effect_small s rank busy l (op.Pset session set target) =
-    small_then l (as_session (bound_of l.names session)) _ (λ from. small_then l (as_set (set_members s rank set)) _ (λ members. small_then l (refuse_if (is_some (bound_of l.names target)) class.Arg) _ (λ q. omega arith)))
-effect_small s rank busy l (op.Create group tag target) =
-    small_then l (as_group (bound_of l.names group)) _ (λ g. small_then l (refuse_if (lacks g.0 rank) class.Group) _ (λ q. small_then l (refuse_if (is_some (bound_of l.names target)) class.Arg) _ (λ q'. small_then l (refuse_if (busy g.0 tag) class.Busy) _ (λ q''. begins_small l g.0 g.1 tag target))))
-effect_small s rank busy l (op.Free comm) = small_then l (as_comm (bound_of l.names comm)) _ (λ c. omega arith)
-effect_small s rank busy l (op.Dup comm target) =
-    small_then l (as_comm (bound_of l.names comm)) _ (λ c. small_then l (refuse_if (is_some (bound_of l.names target)) class.Arg) _ (λ q. omega arith))
-effect_small s rank busy l _ = omega arith
+shape_small : (l : Local) (e : Effect) → Shape l e → Small l e
+shape_small l e (told said) = omega arith
+shape_small l e (opened target free) = omega arith
+shape_small l e (grouped target members session free) = omega arith
+shape_small l e (ungrouped group) = omega arith
+shape_small l e (asked origin target session free) = omega arith
+shape_small l e (freed comm c session there) = omega arith
 
 -- each communicator counts at most so many creations
 abbrev AllCount : ℕ → List CommRow → Type 0
@@ -71,7 +55,7 @@ AllCount n comms = AllByRecursion (λ m. m.creations ≤ n) comms
 
 -- how far the counters of two states of a rank lie apart
 pub record OneMore (x y : Rank) : Type 0 where
-  pub sessions : y.local.sessions ≤ x.local.sessions + 1
+  pub sessions : y.local.opened ≤ x.local.opened + 1
   pub calls : (u : ℕ) → (thread_at y u).calls ≤ (thread_at x u).calls + 1
   pub creations : (n : ℕ) → AllCount n x.comms → AllCount (n + 1) y.comms
   pub rounds : (k : Key) → (n : ℕ) → ((j : Key) → round_of x.rounds j ≤ n) → round_of y.rounds k ≤ n + 1
@@ -132,7 +116,7 @@ changed x t u a le = go (set_place x.threads t a idle_thread u)
 
 step_small : (x : Rank) (a : Act) → OneMore x (step x a).state
 unfolding step
-step_small x (Call t o) = go (effect_of x.setting x.rank (is_open_here x) x.local o) (effect_small x.setting x.rank (is_open_here x) x.local o)
+step_small x (Call t o) = go (effect_of x.setting x.rank (around_here x) x.local o) (shape_small x.local (effect_of x.setting x.rank (around_here x) x.local o) (effect_shape x.setting x.rank (around_here x) x.local o))
   where
     go : (e : Effect) → Small x.local e → OneMore x (called x t e).state
     go (Says l r) h = record { sessions = h; calls = λ u. changed x t u _ (omega arith); creations = same_comms x; rounds = same_rounds x }
@@ -190,7 +174,7 @@ step_small x (Settle key) = go (verdict_of x.setting.contexts x.gathered key (ro
 
 -- all counters are at most a number
 pub record IsBelow (n : ℕ) (x : Rank) : Type 0 where
-  pub sessions : x.local.sessions ≤ n
+  pub sessions : x.local.opened ≤ n
   pub calls : (t : ℕ) → (thread_at x t).calls ≤ n
   pub rounds : (k : Key) → round_of x.rounds k ≤ n
   pub creations : AllCount n x.comms

@@ -3,11 +3,9 @@ use Rattle.std.proofs.Common.{◌≡◌, ◌≤◌, ℕ, ◌<◌, ◌==◌, ◌&
 use Rattle.std.specs.Option.{is_some, is_none}
 use Rattle.std.specs.List.{AllByRecursion}
 use Rattle.mpi_base.specs.declared.keys.Key.{Key}
-use Rattle.mpi_law.specs.declared.rows.Bound.{Bound}
-use Rattle.mpi_law.specs.declared.rows.Bound.TheVariants as bound
-use Rattle.mpi_law.specs.declared.rows.NameRow.{NameRow}
+use Rattle.local_law.specs.Objects as bound
 use Rattle.mpi_law.specs.declared.setting.Setting.{Setting}
-use Rattle.mpi_law.specs.Local.{Local}
+use Rattle.mpi_law.specs.Local.{Bound, NameRow, Local}
 use Rattle.mpi_law.specs.Registry.{Registry, RankPart, Communicator, Creation, Outcome, Made, NoneFree, Wait, Idle, Creating, Freeing, LiveApart, blank_comm, blank_creation, idle_thread as idle_part, in_use, comm_of, stands_for, called_on, caller_of, has_called, thread_of, part_of}
 use Rattle.mpi_protocol.specs.declared.rows.Stage.{Stage}
 use Rattle.mpi_protocol.specs.declared.rows.Stage.TheVariants.{Called, Waiting, Offered, Done}
@@ -28,33 +26,23 @@ use Rattle.run_law.proofs.Contexts.{is_numbered}
 -- Names
 
 -- one name: the context that the rank knows stands for the communicator at a place of the registry's list, which the
--- rank has not freed; a group is the rank alone
+-- rank has not freed
 abbrev pub BoundFits : List Communicator → ℕ → Bound → Bound → Type 0
 BoundFits comms r bound.Reserved bound.Reserved = Unit {0}
-BoundFits comms r bound.Reserved (bound.Session s) = ⊥
-BoundFits comms r bound.Reserved (bound.Group ms s) = ⊥
-BoundFits comms r bound.Reserved (bound.Comm c s) = ⊥
-BoundFits comms r (bound.Session s) bound.Reserved = ⊥
 BoundFits comms r (bound.Session s) (bound.Session q) = q ≡ s
-BoundFits comms r (bound.Session s) (bound.Group ms q) = ⊥
-BoundFits comms r (bound.Session s) (bound.Comm c q) = ⊥
-BoundFits comms r (bound.Group ms s) bound.Reserved = ⊥
-BoundFits comms r (bound.Group ms s) (bound.Session q) = ⊥
-BoundFits comms r (bound.Group ms s) (bound.Group ns q) = (ns ≡ ms) × (q ≡ s) × (ms ≡ r ∷ [])
-BoundFits comms r (bound.Group ms s) (bound.Comm c q) = ⊥
-BoundFits comms r (bound.Comm c s) bound.Reserved = ⊥
-BoundFits comms r (bound.Comm c s) (bound.Session q) = ⊥
-BoundFits comms r (bound.Comm c s) (bound.Group ms q) = ⊥
+BoundFits comms r (bound.Group ms s) (bound.Group ns q) = (ns ≡ ms) × (q ≡ s)
 BoundFits comms r (bound.Comm c s) (bound.Comm p q) = (q ≡ s) × (comm_of comms r c ≡ Some p) × (has_rank (get_or comms p blank_comm).freed r ≡ false)
+BoundFits comms r _ _ = ⊥
 
 abbrev pub NamesFit : List Communicator → ℕ → List NameRow → List NameRow → Type 0
 NamesFit comms r [] [] = Unit {0}
 NamesFit comms r [] (y ∷ ys) = ⊥
 NamesFit comms r (x ∷ xs) [] = ⊥
-NamesFit comms r (x ∷ xs) (y ∷ ys) = (y.name ≡ x.name) × BoundFits comms r x.bound y.bound × NamesFit comms r xs ys
+NamesFit comms r (x ∷ xs) (y ∷ ys) = (y.0 ≡ x.0) × BoundFits comms r x.1 y.1 × NamesFit comms r xs ys
 
 pub record LocalFits (comms : List Communicator) (r : ℕ) (l m : Local) : Type 0 where
-  pub sessions : m.sessions ≡ l.sessions
+  pub live : m.live ≡ l.live
+  pub opened : m.opened ≡ l.opened
   pub names : NamesFit comms r l.names m.names
 
 -- Creations
@@ -80,12 +68,13 @@ is_comm c bound.Reserved = false
 is_comm c (bound.Session s) = false
 is_comm c (bound.Group ms s) = false
 is_comm c (bound.Comm d s) = d == c
+is_comm c (bound.Request n) = false
 
 abbrev pub binds : ℕ → NameRow → Bool
-binds c row = is_comm c row.bound
+binds c row = is_comm c row.1
 
 abbrev pub is_name : List ℕ → NameRow → Bool
-is_name name row = bytes_eq row.name name
+is_name name row = bytes_eq row.0 name
 
 -- each name is bound once, and each communicator by one name
 pub record NamesApart (names : List NameRow) : Type 0 where

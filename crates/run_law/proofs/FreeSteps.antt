@@ -8,11 +8,9 @@ use Rattle.mpi_base.specs.declared.keys.Key.{Key}
 use Rattle.mpi_base.specs.declared.keys.Kind.{Kind}
 use Rattle.mpi_base.specs.declared.keys.Kind.TheVariants as kind
 use Rattle.mpi_base.specs.declared.ops.Op.{Op}
-use Rattle.mpi_law.specs.declared.rows.Bound.{Bound}
-use Rattle.mpi_law.specs.declared.rows.Bound.TheVariants as bound
-use Rattle.mpi_law.specs.declared.rows.NameRow.{NameRow}
+use Rattle.local_law.specs.Objects as bound
 use Rattle.mpi_law.specs.declared.setting.Setting.{Setting}
-use Rattle.mpi_law.specs.Local.{Local, Frees as FreesIt}
+use Rattle.mpi_law.specs.Local.{is_alone_in, Bound, NameRow, Local, Frees as FreesIt}
 use Rattle.mpi_law.specs.ScriptLists.{is_built}
 use Rattle.mpi_law.specs.Registry.{Registry, Calls, Communicator, RankPart, ThreadPart, Outcome, Wait, Idle, Creating, Freeing, MayCall, LiveApart, blank_comm, idle_thread as idle_part, comm_of, with_freed, thread_of, part_of, effect_at, registry_next, after_effect}
 use Rattle.mpi_protocol.specs.declared.rows.CommRow.{CommRow}
@@ -54,15 +52,15 @@ numbered_staged comms c stage key h = go key.kind refl
     go kind.Share e = refl
 
 -- no name that is bound to another communicator is bound to this one
-none_bound : (names : List NameRow) (c : ℕ) → tally (binds c) names ≡ 0 → list_all (λ (q : NameRow). not (is_comm c q.bound)) names ≡ true
+none_bound : (names : List NameRow) (c : ℕ) → tally (binds c) names ≡ 0 → list_all (λ (q : NameRow). not (is_comm c q.1)) names ≡ true
 none_bound [] c z = refl
-none_bound (x ∷ xs) c z = go (is_comm c x.bound) refl (none_bound xs c)
+none_bound (x ∷ xs) c z = go (is_comm c x.1) refl (none_bound xs c)
   where
-    go : (b : Bool) → is_comm c x.bound ≡ b → (tally (binds c) xs ≡ 0 → list_all (λ (q : NameRow). not (is_comm c q.bound)) xs ≡ true) → (not (is_comm c x.bound) && list_all (λ (q : NameRow). not (is_comm c q.bound)) xs) ≡ true
-    go true e ih = absurd (let o : one (is_comm c x.bound) ≡ 1 = ap one e in omega (arith, o, z))
-    go false e ih = let o : one (is_comm c x.bound) ≡ 0 = ap one e in let k = ih (omega (arith, o, z)) in grind (arith, e, k)
+    go : (b : Bool) → is_comm c x.1 ≡ b → (tally (binds c) xs ≡ 0 → list_all (λ (q : NameRow). not (is_comm c q.1)) xs ≡ true) → (not (is_comm c x.1) && list_all (λ (q : NameRow). not (is_comm c q.1)) xs) ≡ true
+    go true e ih = absurd (let o : one (is_comm c x.1) ≡ 1 = ap one e in omega (arith, o, z))
+    go false e ih = let o : one (is_comm c x.1) ≡ 0 = ap one e in let k = ih (omega (arith, o, z)) in grind (arith, e, k)
 
-module _ (s : Setting) (w : List Rank) (g : Registry) (r t : ℕ) (op : Op) (j : Joined s w g) (lt : r < s.ranks) (t8 : t < 8) (waits : (thread_at (rank_at w r) t).waits ≡ Nothing) (part_waits : (thread_of g r t).wait ≡ Idle) (built : is_built op ≡ true)
+module _ (s : Setting) (w : List Rank) (g : Registry) (r t : ℕ) (op : Op) (j : Joined s w g) (lt : r < s.ranks) (t8 : t < 8) (waits : (thread_at (rank_at w r) t).waits ≡ Nothing) (part_waits : (thread_of g r t).wait ≡ Idle) (built : is_built s.ranks op ≡ true) (alone : is_alone_in (part_of g r).local op ≡ true)
     (l m : Local) (c p : ℕ) (effect : effect_at s g r op ≡ FreesIt m p) (local : LocalFits g.comms r l m) (here : comm_of g.comms r c ≡ Some p) (used : has_rank (get_or g.comms p blank_comm).freed r ≡ false) (none : tally (binds c) l.names ≡ 0)
     (names : EffectNames (rank_at w r).local.names (FreesIt l c)) where
   made : Communicator
@@ -149,7 +147,7 @@ module _ (s : Setting) (w : List Rank) (g : Registry) (r t : ℕ) (op : Op) (j :
   bound_stays a b o k = absurd k
 
   local_new : LocalFits new.comms r l m
-  local_new = record { sessions = local.sessions; names = NamesFit-kept g.comms new.comms r (λ a. not (is_comm c a)) l.names m.names bound_stays (none_bound l.names c none) local.names }
+  local_new = record { live = local.live; opened = local.opened; names = NamesFit-kept g.comms new.comms r (λ a. not (is_comm c a)) l.names m.names bound_stays (none_bound l.names c none) local.names }
 
   -- a creation that is decided has another context, since this one has a name
   stage_stays : (group : List ℕ) (o : Option Stage) (out : Option Outcome) → Unbound (rank_at w r).local.names o → StageFits g.comms r group o out → StageFits new.comms r group o out
@@ -263,7 +261,7 @@ module _ (s : Setting) (w : List Rank) (g : Registry) (r t : ℕ) (op : Op) (j :
   pub free_goes : Goes s g (Calls r t op false ∷ []) (set w r (record (rank_at w r) { comms = set_comm_stage (rank_at w r).comms c Freed; local = l; threads = set (rank_at w r).threads t (record { calls = (thread_at (rank_at w r) t).calls + 1; waits = Frees c }) }))
   unfolding registry_next new y part thread row made
   free_goes =
-      let may : MayCall s g r t op false = record { rank = lt; thread = t8; built = built; idle = rw part_waits refl; reply = rw effect refl } in
+      let may : MayCall s g r t op false = record { rank = lt; thread = t8; built = built; alone = alone; idle = rw part_waits refl; reply = rw effect refl } in
       let after : after_effect g r t (effect_at s g r op) ≡ new = rw effect refl in
       let live : LiveApart new = subst (λ (h : Registry). LiveApart h) after (event_apart s g (Calls r t op false) may j.whole.apart) in
       let done : Joined s (set w r y) new = joined_step s w g new r y part j lt refl grows kept (whole live) in

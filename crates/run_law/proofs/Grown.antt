@@ -3,7 +3,7 @@ use Rattle.std.proofs.Common.{◌≡◌, ◌≢◌, ◌⊎◌, ℕ, ◌<◌, ◌
 use Rattle.std.specs.Option.{is_some}
 use Rattle.mpi_base.specs.declared.keys.Key.{Key}
 use Rattle.mpi_law.specs.declared.setting.Setting.{Setting}
-use Rattle.mpi_law.specs.Local.{Local}
+use Rattle.mpi_law.specs.Local.{NameRow, Local}
 use Rattle.mpi_law.specs.Registry.{Creation, blank_creation, Registry, RankPart, ThreadPart, Communicator, Outcome, Made, NoneFree, Wait, Idle, Creating, Freeing, stands_for, blank_comm, blank_part, idle_thread as idle_part, in_use, comm_of, called_on, part_of}
 use Rattle.mpi_protocol.specs.declared.rows.Stage.{Stage}
 use Rattle.mpi_protocol.specs.declared.rows.Stage.TheVariants.{Called, Waiting, Offered, Done}
@@ -13,7 +13,6 @@ use Rattle.mpi_protocol.specs.declared.rows.Waits.TheVariants.{Nothing, Creation
 use Rattle.mpi_protocol.specs.declared.rows.ThreadRow.{ThreadRow}
 use Rattle.mpi_protocol.specs.Rank.{Rank, stage_of, thread_at, idle_thread, row_at}
 use Rattle.mpi_protocol.specs.World.{rank_at, blank}
-use Rattle.mpi_law.specs.declared.rows.NameRow.{NameRow}
 use Rattle.mpi_protocol.specs.declared.rows.CreationRow.{CreationRow}
 use Rattle.run_law.proofs.Lists.{set_place, tally}
 use Rattle.mpi_base.specs.MemberLists.{has_rank}
@@ -52,7 +51,7 @@ StageFits-kept old new r group (Some (Done ended.Exhausted)) (Some (Made p)) f h
 StageFits-kept old new r group (Some (Done ended.Exhausted)) (Some NoneFree) f h = tt
 
 pub LocalFits-grown : (old new : List Communicator) (r : ℕ) (l m : Local) → Keeps old new r → LocalFits old r l m → LocalFits new r l m
-LocalFits-grown old new r l m k h = record { sessions = h.sessions; names = NamesFit-grown old new r l.names m.names k h.names }
+LocalFits-grown old new r l m k h = record { live = h.live; opened = h.opened; names = NamesFit-grown old new r l.names m.names k h.names }
 
 -- a creation whose row stays goes on to fit, where its key goes on to stand for it and its stage fits
 pub CreationFits-moved : (old new : Registry) (q : ℕ) (x y : Rank) (key : Key) (target : List ℕ) (session n : ℕ) → length old.creations ≤ length new.creations → row_of new n ≡ row_of old n → stands_for new.comms q key ≡ Some (row_of old n).name → is_numbered y.comms key ≡ true

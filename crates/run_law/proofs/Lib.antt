@@ -3,6 +3,7 @@ pub mod Rows
 pub mod Contexts
 pub mod Apart
 pub mod Creations
+pub mod Shapes
 pub mod Fits
 pub mod Bindings
 pub mod Names
@@ -29,3 +30,5 @@ pub mod Called
 pub mod Counters
 pub mod Goes
 pub mod Standing
+pub mod Sole
+pub mod Refusals

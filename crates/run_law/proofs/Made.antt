@@ -5,6 +5,7 @@ use Rattle.std.proofs.lemmas.Bool.Decides.{nat_tests}
 use Rattle.mpi_base.specs.MemberLists.{has_rank}
 use Rattle.mpi_base.specs.declared.keys.Key.{Key}
 use Rattle.mpi_law.specs.declared.setting.Setting.{Setting}
+use Rattle.mpi_law.specs.Local.{Bound, NameRow}
 use Rattle.mpi_law.specs.Registry.{Registry, RankPart, Communicator, Creation, CreationName, blank_comm, comm_of, called_on, stands_for}
 use Rattle.mpi_protocol.specs.declared.rows.CommRow.{CommRow}
 use Rattle.mpi_protocol.specs.Rank.{Rank, row_at}
@@ -13,9 +14,7 @@ use Rattle.run_law.proofs.Rows.{or_else, or_else_none}
 use Rattle.run_law.proofs.Contexts.{comm_of_is, comm_of-append, row_at-append, Standing, by_group, by_parent, standing, is_numbered, numbered_stays}
 use Rattle.run_law.proofs.Fits.{BoundFits, NamesFit, is_comm, binds, CommFits, RankFits}
 use Rattle.run_law.proofs.Lists.{tally, one}
-use Rattle.mpi_law.specs.declared.rows.Bound.{Bound}
-use Rattle.mpi_law.specs.declared.rows.Bound.TheVariants as bound
-use Rattle.mpi_law.specs.declared.rows.NameRow.{NameRow}
+use Rattle.local_law.specs.Objects as bound
 use Rattle.mpi_law.specs.Registry.{is_live_at}
 use Rattle.mpi_protocol.specs.declared.rows.CommStage.TheVariants.{Live}
 use Rattle.mpi_protocol.specs.Step.{is_left, has_none_open}
@@ -107,8 +106,8 @@ module _ (s : Setting) (g : Registry) (r : ℕ) (x : Rank) (p : RankPart) (key :
       go [] (y ∷ ys) h = absurd h
       go (y ∷ ys) [] h = absurd h
       go (y ∷ ys) (z ∷ zs) h =
-          let a = other y.bound z.bound h.1 in
-          let o : one (is_comm c y.bound) ≡ 0 = ap one a in
+          let a = other y.1 z.1 h.1 in
+          let o : one (is_comm c y.1) ≡ 0 = ap one a in
           let ih = go ys zs h.2 in
           omega (arith, o, ih)
 

@@ -7,6 +7,7 @@ use Rattle.mpi_base.specs.declared.keys.Key.{Key}
 use Rattle.mpi_base.specs.Keys.{same_key}
 use Rattle.mpi_base.proofs.KeyFacts.{same_key_is, same_key-refl}
 use Rattle.mpi_law.specs.declared.setting.Setting.{Setting}
+use Rattle.mpi_law.specs.Local.{NameRow}
 use Rattle.mpi_law.specs.Registry.{Registry, RankPart, Communicator, Outcome, Wait, Idle, Creating, Freeing, idle_thread as idle_part, place_in}
 use Rattle.mpi_protocol.specs.declared.rows.Stage.{Stage}
 use Rattle.mpi_protocol.specs.declared.rows.Stage.TheVariants.{Called, Waiting, Offered, Done}
@@ -18,7 +19,6 @@ use Rattle.mpi_protocol.specs.Agreement.{is_key, may_own, is_first, has_offer, i
 use Rattle.mpi_protocol.specs.Step.{gather, empty_mask, offered, is_due}
 use Rattle.run_law.proofs.Lists.{one, All_map, All_snoc}
 use Rattle.run_law.proofs.Rows.{stage_of-set, has_offer-append}
-use Rattle.mpi_law.specs.declared.rows.NameRow.{NameRow}
 use Rattle.mpi_protocol.specs.Step.{has_none_open}
 use Rattle.run_law.proofs.Fits.{Unbound, StageFits, row_of, WaitFits, RankFits, OfferFits, offer_fits, round_fits, is_away, is_owned}
 use Rattle.run_law.proofs.Own.{own_members}

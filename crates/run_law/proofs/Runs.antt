@@ -13,6 +13,7 @@ use Rattle.mpi_law.specs.Registry.{Registry, Event, ThreadPart, blank_part, idle
 use Rattle.mpi_protocol.specs.declared.rows.Stage.{Stage}
 use Rattle.mpi_protocol.specs.declared.rows.Stage.TheVariants.{Called, Waiting, Offered, Done}
 use Rattle.mpi_law.specs.ScriptLists.{is_built}
+use Rattle.mpi_law.specs.Local.{is_alone_in}
 use Rattle.mpi_protocol.specs.Rank.{Rank, fresh, stage_of, thread_at, idle_thread, is_idle}
 use Rattle.mpi_protocol.specs.Agreement.{is_first, is_ready}
 use Rattle.mpi_protocol.specs.Step.{step, is_enabled, is_due, if_waiting, is_answerable, offered}
@@ -50,9 +51,10 @@ step_goes s w g c j may =
 
     go : (r : ℕ) (a : Act) → r < s.ranks → is_enabled (rank_at w r) a ≡ true → Goes s g (act_events r a (step (rank_at w r) a).said (step (rank_at w r) a).dropped (step (rank_at w r) a).reply) (set w r (step (rank_at w r) a).state)
     go r (Call t op) lt e =
-        let a = both_true (nat_lt t 8) (is_idle (thread_at (rank_at w r) t).waits && is_built op) e in
-        let b = both_true (is_idle (thread_at (rank_at w r) t).waits) (is_built op) a.1 in
-        call_goes s w g r t op j lt (grind (arith, nat_tests, a.0)) b.0 b.1
+        let a = both_true (nat_lt t 8) (is_idle (thread_at (rank_at w r) t).waits && (is_built (rank_at w r).setting.ranks op && is_alone_in (rank_at w r).local op)) e in
+        let b = both_true (is_idle (thread_at (rank_at w r) t).waits) (is_built (rank_at w r).setting.ranks op && is_alone_in (rank_at w r).local op) a.1 in
+        let c = both_true (is_built (rank_at w r).setting.ranks op) (is_alone_in (rank_at w r).local op) b.1 in
+        call_goes s w g r t op j lt (grind (arith, nat_tests, a.0)) b.0 (subst (λ (z : Setting). is_built z.ranks op ≡ true) (j.fits r lt).setting c.0) c.1
     go r (Answer t) lt e =
         let a = both_true (nat_lt t 8) (is_answerable (rank_at w r) (thread_at (rank_at w r) t).waits) e in
         answer_goes s w g r t j lt (grind (arith, nat_tests, a.0)) a.1
@@ -103,7 +105,7 @@ fresh_fits : (s : Setting) (r : ℕ) → RankFits s (registry_opening s) r (fres
 fresh_fits s r = record {
   rank = refl;
   setting = refl;
-  local = record { sessions = refl; names = tt };
+  local = record { live = refl; opened = refl; names = tt };
   long = refl;
   long_part = refl;
   calls = λ t. ap (λ (z : ThreadPart). z.calls) (get_or-replicate 8 t idle_part) ∙ ap (λ (z : ThreadRow). z.calls) (sym (get_or-replicate 8 t idle_thread));

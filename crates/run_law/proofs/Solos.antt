@@ -13,8 +13,9 @@ use Rattle.mpi_base.specs.declared.entries.Choice.{Choice}
 use Rattle.mpi_base.specs.declared.entries.Entry.{Entry}
 use Rattle.mpi_law.specs.declared.setting.Setting.{Setting}
 use Rattle.mpi_law.specs.ScriptLists.{AllScripts, script_of, next_op, is_built}
-use Rattle.mpi_law.specs.Local.{Local, Effect, Origin, Grouped, Duplicated, Says, Joins, Frees, effect_of, rebind, unbind}
-use Rattle.mpi_law.specs.declared.rows.Bound.TheVariants.{Comm}
+use Rattle.local_law.specs.Names.{rebind, unbind}
+use Rattle.mpi_law.specs.Local.{with_names, is_alone_in, Local, Effect, Origin, Grouped, Duplicated, Says, Joins, Frees, effect_of}
+use Rattle.local_law.specs.Objects.{Comm}
 use Rattle.mpi_law.specs.Registry.{Registry, RankPart, part_of, registry_opening}
 use Rattle.mpi_protocol.specs.declared.rows.CreationRow.{CreationRow}
 use Rattle.mpi_protocol.specs.declared.rows.Outcome.{Outcome as Ended}
@@ -28,7 +29,7 @@ use Rattle.mpi_protocol.specs.declared.rows.Waits.TheVariants.{Nothing, Creation
 use Rattle.mpi_protocol.specs.declared.rows.ThreadRow.{ThreadRow}
 use Rattle.mpi_protocol.specs.Rank.{Rank, Offer, fresh, stage_of, round_of, thread_at, idle_thread, is_idle, set_stage, close_creation}
 use Rattle.mpi_protocol.specs.Agreement.{is_key, is_waiting, is_least, may_own, is_first, is_ready, all_own, least_common, picked, verdict_of}
-use Rattle.mpi_protocol.specs.Step.{key_of, step, is_enabled, is_due, is_done, is_answerable, called, joined, answered, if_done, if_waiting, offered, settled, ended as ends, is_open_here}
+use Rattle.mpi_protocol.specs.Step.{key_of, step, is_enabled, is_due, is_done, is_answerable, called, joined, answered, if_done, if_waiting, offered, settled, ended as ends, around_here}
 use Rattle.mpi_protocol.specs.World.{opening, blank, rank_at, moved}
 use Rattle.mpi_protocol.specs.Run.{RunsFrom, world_after, IsProtocolRun, end_of}
 use Rattle.mpi_protocol.specs.Order.{IsOfScript, IsOpenTo, IsDrained}
@@ -282,8 +283,8 @@ solo_answer scripts x key target session d solo lt waits stage = go d stage
         omega (arith, a, c, v)
 
     go : (d : Ended) → stage_of x.opened key ≡ Some (Done d) → Next scripts x (ends x 0 key target session d).state
-    go (ended.Context c) st = (fits (record { names = rebind x.local.names target (Comm c session); sessions = x.local.sessions }), falls (ends x 0 key target session (ended.Context c)).state (ended.Context c) st (set_first x.threads (record { calls = (thread_at x 0).calls; waits = Nothing }) lt))
-    go ended.Exhausted st = (fits (record { names = unbind x.local.names target; sessions = x.local.sessions }), falls (ends x 0 key target session ended.Exhausted).state ended.Exhausted st (set_first x.threads (record { calls = (thread_at x 0).calls; waits = Nothing }) lt))
+    go (ended.Context c) st = (fits (with_names x.local (rebind x.local.names target (Comm c session))), falls (ends x 0 key target session (ended.Context c)).state (ended.Context c) st (set_first x.threads (record { calls = (thread_at x 0).calls; waits = Nothing }) lt))
+    go ended.Exhausted st = (fits (with_names x.local (unbind x.local.names target)), falls (ends x 0 key target session ended.Exhausted).state ended.Exhausted st (set_first x.threads (record { calls = (thread_at x 0).calls; waits = Nothing }) lt))
 
 -- the open key goes to another stage that is nearer to the answer
 solo_stage : (scripts : AllScripts) (x y : Rank) (key : Key) (b : Stage) → SoloFits x → Zero x key → is_some (stage_of x.opened key) ≡ true → y.threads ≡ x.threads → y.opened ≡ set_stage x.opened key b → (AllLive x.comms → AllLive y.comms) → owns_offer (Some b) ≡ true → stage_steps (Some b) < stage_steps (stage_of x.opened key) → Next scripts x y
@@ -468,7 +469,7 @@ solo_step s w g scripts c single alone j solo may =
 
     call : (t : ℕ) (op : Op) → next_op scripts 0 t (thread_at (rank_at w 0) t).calls ≡ Some op → is_idle (thread_at (rank_at w 0) t).waits ≡ true → Next scripts (rank_at w 0) (step (rank_at w 0) (Call t op)).state
     call zero op e idle =
-        solo_call scripts (rank_at w 0) (effect_of (rank_at w 0).setting (rank_at w 0).rank (is_open_here (rank_at w 0)) (rank_at w 0).local op) solo long (idle_is (thread_at (rank_at w 0) 0).waits idle) (next_there (script_of scripts 0 0) (thread_at (rank_at w 0) 0).calls op e)
+        solo_call scripts (rank_at w 0) (effect_of (rank_at w 0).setting (rank_at w 0).rank (around_here (rank_at w 0)) (rank_at w 0).local op) solo long (idle_is (thread_at (rank_at w 0) 0).waits idle) (next_there (script_of scripts 0 0) (thread_at (rank_at w 0) 0).calls op e)
     call (suc t) op e idle = absurd (none (script_of scripts 0 (suc t)) (thread_at (rank_at w 0) (suc t)).calls (alone (suc t) (omega arith)) e)
       where
         none : (ops : List Op) (n : ℕ) → ops ≡ [] → slice_get ops n ≡ Some op → ⊥
@@ -502,8 +503,8 @@ solo_step s w g scripts c single alone j solo may =
 
     act : (a : Act) → is_enabled (rank_at w 0) a ≡ true → IsOfScript scripts (rank_at w 0) 0 a → Next scripts (rank_at w 0) (step (rank_at w 0) a).state
     act (Call t op) e h =
-        let b = two (nat_lt t 8) (is_idle (thread_at (rank_at w 0) t).waits && is_built op) e in
-        call t op h (two (is_idle (thread_at (rank_at w 0) t).waits) (is_built op) b.1).0
+        let b = two (nat_lt t 8) (is_idle (thread_at (rank_at w 0) t).waits && (is_built (rank_at w 0).setting.ranks op && is_alone_in (rank_at w 0).local op)) e in
+        call t op h (two (is_idle (thread_at (rank_at w 0) t).waits) (is_built (rank_at w 0).setting.ranks op && is_alone_in (rank_at w 0).local op) b.1).0
     act (Answer t) e h = answer t (two (nat_lt t 8) (is_answerable (rank_at w 0) (thread_at (rank_at w 0) t).waits) e).1
     act (Deliver from) e h = absurd (cc (e))
     act (MakeOffer key) e h = offer key (stage_of (rank_at w 0).opened key) refl e
@@ -536,7 +537,7 @@ solo_run s w g scripts (e ∷ es) single alone j solo run drained =
     let next = solo_step s w g scripts e.choice single alone j solo drained.0.may in
     solo_run s (moved w e.choice) _ scripts es single alone one.1 next.0 run.2 drained.1
 
-first_fresh : (s : Setting) → s.ranks ≡ 1 → rank_at (opening s) 0 ≡ fresh s 0
+pub first_fresh : (s : Setting) → s.ranks ≡ 1 → rank_at (opening s) 0 ≡ fresh s 0
 first_fresh s single = get_or-map-range_with_len (fresh s) 0 s.ranks 0 0 blank (omega (arith, single)) (omega arith)
 
 pub solo_end : (s : Setting) (scripts : AllScripts) (journal : List Entry) → s.ranks ≡ 1 → IsSolo scripts → IsProtocolRun s journal → IsDrained scripts (opening s) journal → SoloEnd s (end_of s journal)

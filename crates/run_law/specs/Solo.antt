@@ -1,6 +1,8 @@
 -- One script on one rank, and how many steps of the drain it still takes at most.
-use Rattle.std.specs.Prelude.{◌≡◌, ℕ, ◌+◌, ◌-◌, ◌*◌, ◌≤◌, List, [], length, Option, Some, None}
+use Rattle.std.specs.Prelude.{◌≡◌, ◌⊎◌, ℕ, ◌+◌, ◌-◌, ◌*◌, ◌≤◌, List, [], ◌∷◌, length, Option, Some, None}
+use Rattle.std.specs.List.{AllByRecursion}
 use Rattle.mpi_base.specs.declared.ops.Op.{Op}
+use Rattle.mpi_law.specs.declared.setting.Setting.{Setting}
 use Rattle.mpi_law.specs.ScriptLists.{AllScripts, script_of}
 use Rattle.mpi_protocol.specs.declared.rows.Stage.{Stage}
 use Rattle.mpi_protocol.specs.declared.rows.Stage.TheVariants.{Called, Waiting, Offered, Done}
@@ -14,6 +16,14 @@ use Rattle.mpi_protocol.specs.declared.rows.CommStage.TheVariants.{Live, Freed, 
 -- thread 0 of rank 0 alone has a script
 abbrev pub IsSolo : AllScripts → Type 0
 IsSolo scripts = (t : ℕ) → 1 ≤ t → script_of scripts 0 t ≡ []
+
+-- no member but a rank
+abbrev pub IsSole : ℕ → List ℕ → Type 0
+IsSole r members = (members ≡ []) ⊎ (members ≡ r ∷ [])
+
+-- no process set lists another rank than 0
+abbrev pub SetsSole : Setting → Type 0
+SetsSole s = AllByRecursion (λ set. IsSole 0 set.members) s.psets.sets
 
 -- a creation's settles, offer and answer that are still to come
 abbrev pub stage_steps : Option Stage → ℕ

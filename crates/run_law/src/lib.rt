@@ -2,22 +2,28 @@
 //! registry. Each law is the contract of a function that does nothing.
 #![tactic(auto)]
 
-ghost use Rattle.std.specs.Prelude.{◌≡◌, ◌<◌, ◌≤◌, ◌++◌, ◌∷◌, [], ℕ, Bool, List, length, true, None, Option, is_some, All};
+ghost use Rattle.std.specs.Prelude.{◌≡◌, ◌<◌, ◌≤◌, ◌++◌, ◌∷◌, [], ℕ, Bool, List, length, true, None, Some, Option, ◌+◌, is_some, All};
 ghost use Rattle.mpi_base.specs.declared.entries.Entry.{Entry};
 ghost use Rattle.mpi_base.specs.declared.keys.Key.{Key};
 ghost use Rattle.mpi_base.specs.declared.ops.Op.{Op};
 ghost use Rattle.mpi_base.specs.declared.replies.Reply.{Reply};
 ghost use Rattle.mpi_law.specs.declared.setting.Setting.{Setting};
+ghost use Rattle.mpi_base.specs.declared.entries.Act.TheVariants.{Call};
+ghost use Rattle.mpi_base.specs.declared.errors.ErrClass.{ErrClass};
+ghost use Rattle.mpi_base.specs.declared.replies.Reply.TheVariants.{Refused};
+ghost use Rattle.mpi_law.specs.Local.{Local, Says, is_alone_in};
 ghost use Rattle.mpi_law.specs.ScriptLists.{AllScripts, next_op, script_of};
-ghost use Rattle.mpi_law.specs.Registry.{Registry, Event, Calls, Picks, Backs, Replies, Allowed, IsRegistryRun, LiveApart, registry_opening, registry_after, thread_of};
+ghost use Rattle.mpi_law.specs.Registry.{Registry, Event, Calls, Picks, Backs, Replies, Allowed, IsRegistryRun, LiveApart, registry_opening, registry_after, thread_of, effect_at, part_of};
 ghost use Rattle.mpi_law.specs.Closed.{is_closed};
 ghost use Rattle.mpi_base.specs.declared.entries.Choice.{Choice};
-ghost use Rattle.mpi_protocol.specs.Rank.{stage_of, thread_at, round_of};
+ghost use Rattle.mpi_protocol.specs.declared.rows.Waits.TheVariants.{Nothing};
+ghost use Rattle.mpi_protocol.specs.Step.{step, with_thread};
+ghost use Rattle.mpi_protocol.specs.Rank.{Rank, stage_of, thread_at, round_of};
 ghost use Rattle.mpi_protocol.specs.World.{opening, rank_at, moved, may_happen, entry_at};
 ghost use Rattle.mpi_protocol.specs.Run.{IsProtocolRun, end_of, events_of, calls_of};
 ghost use Rattle.mpi_protocol.specs.Order.{IsQuiet, IsDrained, IsOpenTo, IsFirstChoice};
 ghost use Rattle.run_law.specs.Keys.{Stands};
-ghost use Rattle.run_law.specs.Solo.{IsSolo, steps_left};
+ghost use Rattle.run_law.specs.Solo.{IsSolo, SetsSole, steps_left};
 
 /// The events of every protocol run, for every list of choices, each enabled when it is made, are a
 /// registry run.
@@ -68,9 +74,23 @@ pub fn solo_steps_fall()
         → IsOpenTo (end_of s journal) scripts c → steps_left (script_of scripts 0 0) (rank_at (moved (end_of s journal) c) 0) < steps_left (script_of scripts 0 0) (rank_at (end_of s journal) 0) }
 {}
 
+/// One rank whose process sets list no other: whatever it calls needs nobody else, since each of its groups
+/// has at most one member.
+pub fn solo_groups_are_small()
+    ensures { (s : Setting) (journal : List Entry) (op : Op) → s.ranks ≡ 1 → SetsSole s → IsProtocolRun s journal → is_alone_in (rank_at (end_of s journal) 0).local op ≡ true }
+{}
+
+/// A refused call changes nothing but the thread's place, whatever the operation. That a creation ends
+/// exhausted is told in an answer.
+pub fn refusals_change_nothing()
+    ensures rank { (x : Rank) (t : ℕ) (op : Op) (class : ErrClass) → (step x (Call t op)).reply ≡ Some (Refused class)
+        → (step x (Call t op)).state ≡ record x { threads = with_thread x t (record { calls = (thread_at x t).calls + 1; waits = Nothing }) } }
+    ensures registry { (s : Setting) (g : Registry) (r t : ℕ) (op : Op) (l : Local) (class : ErrClass) → effect_at s g r op ≡ Says l (Refused class) → l ≡ (part_of g r).local }
+{}
+
 /// Each counter of a rank is at most the number of entries of the journal.
 pub fn counters_count_entries()
-    ensures sessions { (s : Setting) (journal : List Entry) (r : ℕ) → (rank_at (end_of s journal) r).local.sessions ≤ length journal }
+    ensures sessions { (s : Setting) (journal : List Entry) (r : ℕ) → (rank_at (end_of s journal) r).local.opened ≤ length journal }
     ensures calls { (s : Setting) (journal : List Entry) (r t : ℕ) → (thread_at (rank_at (end_of s journal) r) t).calls ≤ length journal }
     ensures rounds { (s : Setting) (journal : List Entry) (r : ℕ) (key : Key) → round_of (rank_at (end_of s journal) r).rounds key ≤ length journal }
     ensures creations { (s : Setting) (journal : List Entry) (r : ℕ) → All (λ m. m.creations ≤ length journal) (rank_at (end_of s journal) r).comms }

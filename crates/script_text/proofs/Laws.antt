@@ -1,93 +1,83 @@
--- Operations and their lines.
-use Rattle.std.proofs.Common.{◌≡◌, ℕ, nat_lt, Bool, true, false, List, [], ◌∷◌, ◌++◌, Option, Some, None, IfSome, IfNone, refl, sym, ap, ◌∙◌, arith}
-use Rattle.std.proofs.lemmas.Bool.Decides.{nat_tests}
-use Rattle.std.proofs.lemmas.List.Folds.{list_all-append}
-use Rattle.std.proofs.lemmas.List.Splits.{join_with_byte-slice_split}
-use Rattle.std.specs.List.{list_all, AllByRecursion}
-use Rattle.mpi_base.specs.Texts.{IsName, IsPsetName, IsTag, is_name_byte, is_pset_byte, is_tag_byte}
-use Rattle.mpi_base.specs.declared.ops.Op.{Op}
-use Rattle.mpi_base.specs.declared.ops.Op.TheVariants.{Session, Pset, Create, Dup, Free}
-use Rattle.script_text.specs.Spelling.{in_line, quoted_text, tokens_of, line_of, IsOp, has_line_feed}
-use Rattle.script_text.specs.Tokens.{tokens_in, Found, op_at, sole_item}
-use Rattle.script_text.proofs.Cuts.{IsPlain, tokens_again, line_is_one}
-use Rattle.script_text.proofs.Spelled.{op_found, op_again}
+-- Values and their tokens.
+use Rattle.std.proofs.Common.{◌≡◌, true, None, refl, ap}
+use Rattle.std.specs.Option.{option_map}
+use Rattle.token_text.specs.Forms.{IsExact, is_solid}
+use Rattle.token_text.specs.Numbers.{num_form, int_form}
+use Rattle.token_text.specs.Texts.{name_form, pset_name_form, tag_form, hex_form}
+use Rattle.token_text.specs.Words.{dest_form, any_tag_form, colour_form, source_form}
+use Rattle.token_text.specs.Lists.{ints_form, rank_args_form, triplets_form}
+use Rattle.script_text.specs.Spelling.{Value, name, pset, quoted, num, int, hex, list, null_list, triplet_list, arrow, dest, source, tag_or_any, colour, field_of, text_of, Fits}
+use Rattle.script_text.specs.Faults.{named, token_fault}
+use Rattle.script_text.specs.declared.faults.FaultKind.TheVariants.{BadName, BadNumber, BadHex}
 
--- what a test of bytes above a space lets through is plain
-plain_more : (p : ℕ → Bool) → ((b : ℕ) → p b ≡ true → nat_lt 32 b ≡ true) → (t : List ℕ) → list_all p t ≡ true → IsPlain t
-plain_more p more [] h = refl
-plain_more p more (b ∷ bs) h =
-    let x : p b ≡ true = grind (arith, h) in
-    let y : list_all p bs ≡ true = grind (arith, h) in
-    let ih = plain_more p more bs y in
-    let z = more b x in
-    grind (arith, ih, z)
+-- the forms of all values have tokens and values one to one
+pub record AreExact : Type 0 where
+  pub names : IsExact name_form
+  pub psets : IsExact pset_name_form
+  pub tags : IsExact tag_form
+  pub nums : IsExact num_form
+  pub ints : IsExact int_form
+  pub hexes : IsExact hex_form
+  pub lists : IsExact ints_form
+  pub null_lists : IsExact rank_args_form
+  pub triplet_lists : IsExact triplets_form
+  pub dests : IsExact dest_form
+  pub sources : IsExact source_form
+  pub any_tags : IsExact any_tag_form
+  pub colours : IsExact colour_form
 
--- no field has a space or a line feed
-pub plain_name : (t : List ℕ) → IsName t → IsPlain t
-plain_name t h = plain_more is_name_byte (λ b q. grind (arith, nat_tests, q)) t h.all
+pub exact : IsExact name_form → IsExact pset_name_form → IsExact tag_form → IsExact num_form → IsExact int_form → IsExact hex_form → IsExact ints_form → IsExact rank_args_form → IsExact triplets_form → IsExact dest_form → IsExact source_form → IsExact any_tag_form → IsExact colour_form → AreExact
+exact x0 x1 x2 x3 x4 x5 x6 x7 x8 x9 x10 x11 x12 = record { names = x0; psets = x1; tags = x2; nums = x3; ints = x4; hexes = x5; lists = x6; null_lists = x7; triplet_lists = x8; dests = x9; sources = x10; any_tags = x11; colours = x12 }
 
--- the same of a name of a process set
-pub plain_pset_name : (t : List ℕ) → IsPsetName t → IsPlain t
-plain_pset_name t h = plain_more is_pset_byte (λ b q. grind (arith, nat_tests, q)) t h.all
+-- a value's own token has no fault in its field's place
+pub good_text : AreExact → (v : Value) → Fits v → token_fault (field_of v) (text_of v) ≡ None
+unfolding token_fault
+good_text x (name s) h = ap (option_map (named BadName)) (x.names.own s h)
+good_text x (pset s) h = ap (option_map (named BadName)) (x.psets.own s h)
+good_text x (quoted s) h = ap (option_map (named BadName)) (x.tags.own s h)
+good_text x (num n) h = ap (option_map (named BadNumber)) (x.nums.own n h)
+good_text x (int z) h = ap (option_map (named BadNumber)) (x.ints.own z h)
+good_text x (hex bs) h = ap (option_map (named BadHex)) (x.hexes.own bs h)
+good_text x (list zs) h = ap (option_map (named BadNumber)) (x.lists.own zs h)
+good_text x (null_list rs) h = ap (option_map (named BadNumber)) (x.null_lists.own rs h)
+good_text x (triplet_list ps) h = ap (option_map (named BadNumber)) (x.triplet_lists.own ps h)
+good_text x (dest r) h = ap (option_map (named BadNumber)) (x.dests.own r h)
+good_text x (source r) h = ap (option_map (named BadNumber)) (x.sources.own r h)
+good_text x (tag_or_any t) h = ap (option_map (named BadNumber)) (x.any_tags.own t h)
+good_text x (colour k) h = ap (option_map (named BadNumber)) (x.colours.own k h)
+good_text x arrow h = refl
 
--- the same of a tag in quotes
-pub plain_quoted : (t : List ℕ) → IsTag t → IsPlain (quoted_text t)
-plain_quoted t h =
-    let p = plain_more is_tag_byte (λ b q. grind (arith, nat_tests, q)) t h.all in
-    let e = list_all-append (λ b. nat_lt 32 b) t (34 ∷ []) in
-    grind (arith, nat_tests, p, e)
+-- it is one token between spaces
+pub solid_text : AreExact → (v : Value) → Fits v → is_solid (text_of v) ≡ true
+solid_text x (name s) h = x.names.solid s h
+solid_text x (pset s) h = x.psets.solid s h
+solid_text x (quoted s) h = x.tags.solid s h
+solid_text x (num n) h = x.nums.solid n h
+solid_text x (int z) h = x.ints.solid z h
+solid_text x (hex bs) h = x.hexes.solid bs h
+solid_text x (list zs) h = x.lists.solid zs h
+solid_text x (null_list rs) h = x.null_lists.solid rs h
+solid_text x (triplet_list ps) h = x.triplet_lists.solid ps h
+solid_text x (dest r) h = x.dests.solid r h
+solid_text x (source r) h = x.sources.solid r h
+solid_text x (tag_or_any t) h = x.any_tags.solid t h
+solid_text x (colour k) h = x.colours.solid k h
+solid_text x arrow h = refl
 
--- nor has a token of an operation
-pub plain_tokens : (op : Op) → IsOp op → AllByRecursion IsPlain (tokens_of op)
-plain_tokens (Session n) h = (refl, (plain_name n h, tt))
-plain_tokens (Pset s p g) h = (refl, (plain_name s h.0, (plain_pset_name p h.1, (refl, (plain_name g h.2, tt)))))
-plain_tokens (Create g t c) h = (refl, (plain_name g h.0, (plain_quoted t h.1, (refl, (plain_name c h.2, tt)))))
-plain_tokens (Dup c d) h = (refl, (plain_name c h.0, (refl, (plain_name d h.1, tt))))
-plain_tokens (Free c) h = (refl, (plain_name c h, tt))
-plain_tokens _ h = absurd h
-
--- the tokens of an operation's line
-line_again : (op : Op) → IsOp op → tokens_in (line_of op) ≡ tokens_of op
-line_again (Session n) h = let p = plain_tokens (Session n) h in tokens_again _ _ p.0 p.1
-line_again (Pset s p g) h = let q = plain_tokens (Pset s p g) h in tokens_again _ _ q.0 q.1
-line_again (Create g t c) h = let p = plain_tokens (Create g t c) h in tokens_again _ _ p.0 p.1
-line_again (Dup c d) h = let p = plain_tokens (Dup c d) h in tokens_again _ _ p.0 p.1
-line_again (Free c) h = let p = plain_tokens (Free c) h in tokens_again _ _ p.0 p.1
-line_again _ h = absurd h
-
--- nothing at the end
-append_nil : {A : Type 0} (xs : List A) → xs ++ [] ≡ xs
-append_nil [] = refl
-append_nil (x ∷ xs) = ap (λ r. x ∷ r) (append_nil xs)
-
--- a line of an operation is read as it
-pub read_again : (op : Op) → IsOp op → sole_item (op_at (tokens_in (line_of op))) ≡ Some op
-read_again op h = rw (line_again op h, ← append_nil (tokens_of op), op_again op [] h) refl
-
--- what is read from a line has that line
-pub read_found : (line : List ℕ) → IfSome (sole_item (op_at (tokens_in line))) (λ op. IsOp op × (line ≡ line_of op))
-read_found line = go (op_at (tokens_in line)) refl
-  where
-    go : (o : Found Op) → op_at (tokens_in line) ≡ o → IfSome (sole_item o) (λ op. IsOp op × (line ≡ line_of op))
-    go None e = tt
-    go (Some (op, [])) e =
-        let f = op_found (tokens_in line) (op, []) e in
-        (f.0, sym (join_with_byte-slice_split 32 line) ∙ ap in_line (f.1 ∙ append_nil (tokens_of op)))
-    go (Some (op, t ∷ ts)) e = tt
-
--- a line is read as the operation whose line it is
-pub read_only : (line : List ℕ) (op : Op) → IsOp op → line ≡ line_of op → sole_item (op_at (tokens_in line)) ≡ Some op
-read_only line op h e = rw e (read_again op h)
-
--- a line that is not read is no operation's
-pub read_none : (line : List ℕ) (o : Option Op) → o ≡ sole_item (op_at (tokens_in line)) → IfNone o ((op : Op) → IsOp op → line ≡ line_of op → ⊥)
-read_none line (Some op) e = tt
-read_none line None e = λ op h l. (let r = read_only line op h l in cc)
-
--- operations with one line are equal
-pub lines_alone : (a b : Op) → IsOp a → IsOp b → line_of a ≡ line_of b → a ≡ b
-lines_alone a b h k e = let x = read_again a h in let y = read_only (line_of a) b k e in cc (x, y)
-
--- a line has no line feed
-pub lines_are_one : (op : Op) → IsOp op → has_line_feed (line_of op) ≡ false
-lines_are_one op h = line_is_one (tokens_of op) (plain_tokens op h)
+-- in one field, it is the token of no other value
+pub same_value : AreExact → (v w : Value) → Fits v → Fits w → field_of v ≡ field_of w → text_of v ≡ text_of w → v ≡ w
+same_value x (name a) (name b) h k e f = ap name (x.names.alone a b h k f)
+same_value x (pset a) (pset b) h k e f = ap pset (x.psets.alone a b h k f)
+same_value x (quoted a) (quoted b) h k e f = ap quoted (x.tags.alone a b h k f)
+same_value x (num a) (num b) h k e f = ap num (x.nums.alone a b h k f)
+same_value x (int a) (int b) h k e f = ap int (x.ints.alone a b h k f)
+same_value x (hex a) (hex b) h k e f = ap hex (x.hexes.alone a b h k f)
+same_value x (list a) (list b) h k e f = ap list (x.lists.alone a b h k f)
+same_value x (null_list a) (null_list b) h k e f = ap null_list (x.null_lists.alone a b h k f)
+same_value x (triplet_list a) (triplet_list b) h k e f = ap triplet_list (x.triplet_lists.alone a b h k f)
+same_value x (dest a) (dest b) h k e f = ap dest (x.dests.alone a b h k f)
+same_value x (source a) (source b) h k e f = ap source (x.sources.alone a b h k f)
+same_value x (tag_or_any a) (tag_or_any b) h k e f = ap tag_or_any (x.any_tags.alone a b h k f)
+same_value x (colour a) (colour b) h k e f = ap colour (x.colours.alone a b h k f)
+same_value x arrow arrow h k e f = refl
+same_value x v w h k e f = absurd (cc (e))

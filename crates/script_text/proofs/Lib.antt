@@ -1,4 +1,8 @@
-pub mod Cuts
-pub mod Forms
-pub mod Spelled
+pub mod Tokens
+mod Words
 pub mod Laws
+mod Casts
+pub mod Ops
+pub mod Walks
+pub mod Spelled
+mod Blanks

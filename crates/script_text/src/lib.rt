@@ -1,11 +1,15 @@
-//! Lines of a script: the one spelling of each operation, read and written.
+//! Lines of a script: operations read and written.
 #![tactic(auto)]
 
+mod faults;
 mod lines;
 mod reader;
 #[cfg(test)]
 mod tests;
 mod writing;
 
-pub use lines::{lines_tell, read_line};
-pub use writing::{Line, put, put_quoted, write_op};
+pub use faults::{FaultKind, LineFault};
+pub use lines::{is_blank, lines_tell, read_fields, read_line};
+pub use reader::{Reader, Token};
+pub use token_text::Line;
+pub use writing::write_op;

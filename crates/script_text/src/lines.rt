@@ -1,36 +1,140 @@
 //! Lines of a script, read.
-ghost use Rattle.std.specs.Prelude.{◌≡◌, ◌<◌, false, Some, IfSome, IfNone, length};
-ghost use Rattle.script_text.specs.Spelling.{IsOp, line_of, has_line_feed};
-ghost use Rattle.script_text.specs.Tokens.{op_at, tokens_in, sole_item};
+ghost use Rattle.std.specs.Prelude.{◌≡◌, not, ◌==◌, find, None, Some, IfOk, IfErr, List, ℕ, ◌++◌, true};
+ghost use Rattle.script_text.specs.Tokens.{is_blank_line};
+ghost use Rattle.script_text.specs.Spelling.{IsOp, Spells, line_of, tokens_of};
+ghost use Rattle.script_text.specs.Faults.{fault_of};
+ghost use Rattle.script_text.specs.Reads.{ReadsOp};
 ghost use Rattle.mpi_base.specs.declared.ops.Op.{Op as AnyOp};
 
+use crate::faults::{FaultKind, LineFault};
 use crate::reader::Reader;
 use mpi_base::Op;
+use op_table::{OpKind, kind_of};
+use token_text::forms_are_exact;
 
-/// The operation that a line spells; None exactly where it spells none. The line feed is not part
-/// of the line.
-pub fn read_line(line: &[u8]) -> Option<Op>
-    // What is read is spelled so.
-    ensures found { IfSome result (λ op. IsOp op × (line.now ≡ line_of op)) }
-    // What is not read spells nothing.
-    ensures none { IfNone result ((op : AnyOp) → IsOp op → line.now ≡ line_of op → ⊥) }
-    // What is spelled so is read.
-    ensures only { (op : AnyOp) → IsOp op → line.now ≡ line_of op → result ≡ Some op }
+fn first_solid(line: &[u8]) -> Option<u8>
+    ensures { result ≡ find (λ b. not (b == 32)) line.now }
 {
+    line.iter().copied().find(|byte| *byte != b' ')
+}
+
+/// Whether a line has only spaces, or `#` as its first byte that is no space.
+pub fn is_blank(line: &[u8]) -> bool
+    ensures { result ≡ is_blank_line line.now }
+{
+    match first_solid(line) {
+        None => true,
+        Some(byte) => byte == b'#',
+    }
+}
+
+/// The operation of a kind whose fields come next, or the first fault among them.
+pub fn read_fields(kind: OpKind, reader: &mut Reader) -> Result<Op, LineFault>
+    ensures { ReadsOp kind reader.old reader.new result }
+{
+    match kind {
+        OpKind::Session => Ok(Op::Session(reader.name()?)),
+        OpKind::Finalize => Ok(Op::Finalize(reader.name()?)),
+        OpKind::Psets => Ok(Op::Psets(reader.name()?)),
+        OpKind::Nth => Ok(Op::Nth(reader.name()?, reader.num()?)),
+        OpKind::Info => Ok(Op::Info(reader.name()?, reader.pset()?)),
+        OpKind::Pset => Ok(Op::Pset(reader.name()?, reader.pset()?, reader.target()?)),
+        OpKind::Union => Ok(Op::Union(reader.name()?, reader.name()?, reader.target()?)),
+        OpKind::Intersect => Ok(Op::Intersect(reader.name()?, reader.name()?, reader.target()?)),
+        OpKind::Difference => Ok(Op::Difference(reader.name()?, reader.name()?, reader.target()?)),
+        OpKind::Incl => Ok(Op::Incl(reader.name()?, reader.list()?, reader.target()?)),
+        OpKind::Excl => Ok(Op::Excl(reader.name()?, reader.list()?, reader.target()?)),
+        OpKind::RangeIncl => Ok(Op::RangeIncl(
+            reader.name()?,
+            reader.triplet_list()?,
+            reader.target()?,
+        )),
+        OpKind::RangeExcl => Ok(Op::RangeExcl(
+            reader.name()?,
+            reader.triplet_list()?,
+            reader.target()?,
+        )),
+        OpKind::Translate => Ok(Op::Translate(reader.name()?, reader.null_list()?, reader.name()?)),
+        OpKind::Compare => Ok(Op::Compare(reader.name()?, reader.name()?)),
+        OpKind::Size => Ok(Op::Size(reader.name()?)),
+        OpKind::Rank => Ok(Op::Rank(reader.name()?)),
+        OpKind::Gfree => Ok(Op::Gfree(reader.name()?)),
+        OpKind::Create => Ok(Op::Create(reader.name()?, reader.quoted()?, reader.target()?)),
+        OpKind::Dup => Ok(Op::Dup(reader.name()?, reader.target()?)),
+        OpKind::Split => Ok(Op::Split(
+            reader.name()?,
+            reader.colour()?,
+            reader.int()?,
+            reader.target()?,
+        )),
+        OpKind::CreateGroup => Ok(Op::CreateGroup(
+            reader.name()?,
+            reader.name()?,
+            reader.num()?,
+            reader.target()?,
+        )),
+        OpKind::Group => Ok(Op::Group(reader.name()?, reader.target()?)),
+        OpKind::Ccompare => Ok(Op::Ccompare(reader.name()?, reader.name()?)),
+        OpKind::Csize => Ok(Op::Csize(reader.name()?)),
+        OpKind::Crank => Ok(Op::Crank(reader.name()?)),
+        OpKind::Free => Ok(Op::Free(reader.name()?)),
+        OpKind::Send => Ok(Op::Send(reader.name()?, reader.dest()?, reader.num()?, reader.hex()?)),
+        OpKind::Recv => Ok(Op::Recv(
+            reader.name()?,
+            reader.source()?,
+            reader.tag_or_any()?,
+            reader.num()?,
+        )),
+        OpKind::Irecv => Ok(Op::Irecv(
+            reader.name()?,
+            reader.source()?,
+            reader.tag_or_any()?,
+            reader.num()?,
+            reader.target()?,
+        )),
+        OpKind::Wait => Ok(Op::Wait(reader.name()?)),
+        OpKind::Await => Ok(Op::Await(reader.name()?)),
+    }
+}
+
+/// The operation that a line spells, or the first fault of the line. The line feed, and a carriage
+/// return before it, are not part of the line.
+pub fn read_line(line: &[u8]) -> Result<Op, LineFault>
+    // What is read is spelled so.
+    ensures found { IfOk result (λ op. IsOp op × Spells line.now op) }
+    // What is spelled so is read.
+    ensures only { (op : AnyOp) → IsOp op → Spells line.now op → result ≡ Ok op }
+    // Which fault it is.
+    ensures fault { IfErr result (λ e. fault_of line.now ≡ Some e) }
+{
+    forms_are_exact();
     read_tokens(line)
 }
 
-fn read_tokens(line: &[u8]) -> Option<Op>
-    ensures { result ≡ sole_item (op_at (tokens_in line.now)) }
+#[tactic(auto, using(crate::proofs::Spelled::line_extra))]
+fn read_tokens(line: &[u8]) -> Result<Op, LineFault>
+    ensures found { IfOk result (λ op. IsOp op × Spells line.now op) }
+    ensures fault { IfErr result (λ e. fault_of line.now ≡ Some e) }
 {
     let mut reader = Reader::new(line);
-    let op = reader.op()?;
-    if reader.is_done() { Some(op) } else { None }
+    let token = reader.token()?;
+    let Some(kind) = kind_of(token.text) else {
+        return Err(token.fault(FaultKind::UnknownWord));
+    };
+    let op = read_fields(kind, &mut reader)?;
+    reader.finish()?;
+    Ok(op)
 }
 
-/// A line is the line of at most one operation. It has no line feed, and is not empty.
+/// What holds of all lines: the line that is written for a well-formed operation is a spelling of
+/// it, a line is a spelling of one operation alone, and a blank line of none; a spelling has no fault.
 pub fn lines_tell()
-    ensures alone { (a b : AnyOp) → IsOp a → IsOp b → line_of a ≡ line_of b → a ≡ b }
-    ensures one_line { (op : AnyOp) → IsOp op → has_line_feed (line_of op) ≡ false }
-    ensures some { (op : AnyOp) → IsOp op → 0 < length (line_of op) }
-{}
+    ensures own { (op : AnyOp) → IsOp op → Spells (line_of op) op }
+    ensures alone { (line : List ℕ) (a b : AnyOp) → IsOp a → IsOp b → Spells line a → Spells line b → a ≡ b }
+    // So too where other tokens follow, as in a journal.
+    ensures inside { (a b : AnyOp) (xs ys : List (List ℕ)) → IsOp a → IsOp b → tokens_of a ++ xs ≡ tokens_of b ++ ys → (a ≡ b) × (xs ≡ ys) }
+    ensures blank { (line : List ℕ) (op : AnyOp) → is_blank_line line ≡ true → Spells line op → ⊥ }
+    ensures good { (line : List ℕ) (op : AnyOp) → IsOp op → Spells line op → fault_of line ≡ None }
+{
+    forms_are_exact();
+}

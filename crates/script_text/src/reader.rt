@@ -1,203 +1,309 @@
 //! Tokens of a line, and the fields of operations.
-ghost use Rattle.std.specs.Prelude.{◌≡◌, ◌==◌, ◌<◌, if◌then◌else◌, Some, None, IfSome, length, position, bytes_eq, codes};
-ghost use Rattle.std.specs.Option.{option_copied};
-ghost use Rattle.script_text.specs.Tokens.{MirrorsBy, token_at, shown_at, name_in, pset_name_in, arrow_in, target_at, session_at, pset_at, create_at, dup_at, free_at, fields_at, op_at, tag_in, text_if, is_name, is_pset_name, is_tag, is_quoted, middle_of, tokens_in, are_none};
+ghost use Rattle.std.specs.Prelude.{◌≡◌, ◌+◌, ◌<◌, ◌≤◌, ◌==◌, not, [], ◌∷◌, length, position, Ok, Some, OnOk, IfOk, IfErr};
+ghost use Rattle.script_text.specs.Tokens.{tokens};
+ghost use Rattle.script_text.specs.Faults.{end_fault, named};
+ghost use Rattle.script_text.specs.Reads.{Blank, Word, Reads};
+ghost use Rattle.script_text.specs.Spelling.{name, pset, quoted, num, int, hex, list, null_list, triplet_list, arrow, dest, source, tag_or_any, colour};
 
-use mpi_base::{Name, Op, PsetName, StringTag};
+use crate::faults::{FaultKind, LineFault};
+use mpi_base::{Ints, Name, Payload, PsetName, RankArgs, SrcArg, StringTag, Triplets};
+use op_table::Field;
 use std::marker::Model;
+use token_text::TokenFault;
 
-/// What is left of a line; None behind its last token.
+/// A token, and the column where it begins.
+#[derive(Clone, Copy, Drop)]
+pub struct Token<'a> {
+    /// The column of the first byte, from 1.
+    pub column: usize,
+    /// The bytes, none of them a space.
+    pub text: &'a [u8],
+}
+
+impl<'a> Token<'a> {
+    /// A fault of this token.
+    pub fn fault(&self, kind: FaultKind) -> LineFault
+        ensures { result ≡ record { column = self.now.column; kind = kind } }
+    {
+        LineFault {
+            column: self.column,
+            kind,
+        }
+    }
+
+    /// The fault of a token, of this kind where the token is not of its form.
+    fn bad(&self, kind: FaultKind, fault: TokenFault) -> LineFault
+        ensures { result ≡ record { column = self.now.column; kind = named kind fault } }
+    {
+        match fault {
+            TokenFault::NotOfForm => self.fault(kind),
+            TokenFault::TooLong => self.fault(FaultKind::TooLong),
+        }
+    }
+}
+
+/// What is left of a line, from this column on.
 #[derive(Drop)]
 pub struct Reader<'a> {
-    rest: Option<&'a [u8]>,
+    rest: &'a [u8],
+    column: usize,
 }
 
 impl<'a> Model for Reader<'a> {
-    ghost use Rattle.std.specs.Prelude.{List, ℕ};
-    ghost use Rattle.std.specs.Option.{option_copied};
-    ghost use Rattle.script_text.specs.Tokens.{tokens_ahead};
+    ghost use Rattle.std.specs.Prelude.{◌+◌, ◌<◌, ◌^◌, length};
+    ghost use Rattle.script_text.specs.Tokens.{tokens};
+    ghost use Rattle.script_text.specs.Reads.{Ahead};
 
-    ghost Value = { List (List ℕ) };
+    ghost Value = { Ahead };
 
-    ghost view = { λ r. tokens_ahead (option_copied r.rest) };
+    ghost view = { λ r. record { tokens = tokens r.column r.rest.now; end = r.column + length r.rest.now } };
+
+    ghost invariant = { λ r. r.column + length r.rest.now < 2 ^ 64 };
 }
 
-fn first_space(text: &[u8]) -> Option<usize>
-    ensures value { result ≡ position (λ b. b == 32) text.now }
-    ensures bound { IfSome result (λ i. i < length text.now) }
+fn first_not_space(bytes: &[u8]) -> Option<usize>
+    ensures value { result ≡ position (λ b. not (b == 32)) bytes.now }
 {
-    text.iter().position(|byte| *byte == b' ')
+    bytes.iter().position(|byte| *byte != b' ')
 }
 
-#[tactic(auto, unfolding(crate::specs::Tokens::name_in))]
-fn name(token: &[u8]) -> Option<Name>
-    ensures { result ≡ name_in token.now }
+fn first_space(bytes: &[u8]) -> Option<usize>
+    ensures value { result ≡ position (λ b. b == 32) bytes.now }
 {
-    Name::new(token)
+    bytes.iter().position(|byte| *byte == b' ')
 }
 
-#[tactic(auto, unfolding(crate::specs::Tokens::pset_name_in))]
-fn pset_name(token: &[u8]) -> Option<PsetName>
-    ensures { result ≡ pset_name_in token.now }
+fn blank_len(bytes: &[u8]) -> usize
+    ensures within { result ≤ length bytes.now }
+    ensures part { Blank bytes.now result }
 {
-    PsetName::new(token)
-}
-
-fn between_quotes(token: &[u8]) -> Option<&[u8]>
-    ensures { option_copied result ≡ (if is_quoted token.now then Some (middle_of token.now) else None) }
-{
-    match token {
-        [b'"', middle @ .., b'"'] => Some(middle),
-        _ => None,
+    match first_not_space(bytes) {
+        Some(place) => place,
+        None => bytes.len(),
     }
 }
 
-fn bare_tag(text: &[u8]) -> Option<StringTag>
-    ensures { result ≡ text_if (is_tag text.now) text.now }
+fn word_len(bytes: &[u8]) -> usize
+    ensures within { result ≤ length bytes.now }
+    ensures part { Word bytes.now result }
 {
-    StringTag::new(text)
+    match first_space(bytes) {
+        Some(place) => place,
+        None => bytes.len(),
+    }
 }
 
-#[tactic(auto, unfolding(crate::specs::Tokens::tag_in))]
-fn tag(token: &[u8]) -> Option<StringTag>
-    ensures { result ≡ tag_in token.now }
-{
-    bare_tag(between_quotes(token)?)
-}
-
+#[tactic(auto, using(crate::proofs::Walks::reading))]
 impl<'a> Reader<'a> {
+    /// A reader before the first byte of a line.
     pub fn new(line: &'a [u8]) -> Reader<'a>
-        ensures { result ≡ tokens_in line.now }
+        ensures tokens { result.tokens ≡ tokens 1 line.now }
+        ensures end { result.end ≡ length line.now + 1 }
     {
-        Reader { rest: Some(line) }
-    }
-
-    fn token(&mut self) -> Option<&'a [u8]>
-        ensures { MirrorsBy (λ t. t.now) result self.new (token_at self.old) }
-    {
-        let rest = self.rest?;
-        match first_space(rest) {
-            None => {
-                self.rest = None;
-                Some(rest)
-            }
-            Some(place) => {
-                let (token, behind) = rest.split_at(place);
-                let (_, rest) = behind.split_at(1);
-                self.rest = Some(rest);
-                Some(token)
-            }
+        Reader {
+            rest: line,
+            column: 1,
         }
     }
 
-    #[tactic(auto, unfolding(crate::specs::Tokens::shown_at))]
-    fn name(&mut self) -> Option<Name>
-        ensures { MirrorsBy (λ n. n) result self.new (shown_at name_in self.old) }
+    /// The next token, or that one is missing.
+    pub fn token(&mut self) -> Result<Token<'a>, LineFault>
+        ensures end { IfOk result (λ t. self.new.end ≡ self.old.end) }
+        ensures some { IfOk result (λ t. self.old.tokens ≡ record { column = t.column; text = t.text.now } ∷ self.new.tokens) }
+        ensures none { IfErr result (λ e. self.old.tokens ≡ []) }
+        ensures missing { IfErr result (λ e. e ≡ record { column = self.old.end; kind = FaultKind.Missing }) }
+        ensures left { IfErr result (λ e. self.new ≡ self.old) }
     {
-        name(self.token()?)
+        let blank = blank_len(self.rest);
+        let (_, rest) = self.rest.split_at(blank);
+        let column = self.column + blank;
+        let len = word_len(rest);
+        if len == 0 {
+            return Err(LineFault {
+                column,
+                kind: FaultKind::Missing,
+            });
+        }
+        let (text, rest) = rest.split_at(len);
+        self.rest = rest;
+        self.column = column + len;
+        Ok(Token { column, text })
     }
 
-    #[tactic(auto, unfolding(crate::specs::Tokens::shown_at))]
-    fn pset_name(&mut self) -> Option<PsetName>
-        ensures { MirrorsBy (λ n. n) result self.new (shown_at pset_name_in self.old) }
+    /// A name.
+    pub fn name(&mut self) -> Result<Name, LineFault>
+        ensures { Reads (Field.Name ∷ []) (λ x. name x ∷ []) self.old self.new result }
     {
-        pset_name(self.token()?)
+        let token = self.token()?;
+        match token_text::read_name(token.text) {
+            Ok(value) => Ok(value),
+            Err(fault) => Err(token.bad(FaultKind::BadName, fault)),
+        }
     }
 
-    #[tactic(auto, unfolding(crate::specs::Tokens::shown_at))]
-    fn tag(&mut self) -> Option<StringTag>
-        ensures { MirrorsBy (λ t. t) result self.new (shown_at tag_in self.old) }
+    /// A name of a process set.
+    pub fn pset(&mut self) -> Result<PsetName, LineFault>
+        ensures { Reads (Field.Pset ∷ []) (λ x. pset x ∷ []) self.old self.new result }
     {
-        tag(self.token()?)
+        let token = self.token()?;
+        match token_text::read_pset_name(token.text) {
+            Ok(value) => Ok(value),
+            Err(fault) => Err(token.bad(FaultKind::BadName, fault)),
+        }
     }
 
-    #[tactic(auto, unfolding(crate::specs::Tokens::shown_at, crate::specs::Tokens::arrow_in))]
-    fn arrow(&mut self) -> Option<()>
-        ensures { MirrorsBy (λ _. codes "->") result self.new (shown_at arrow_in self.old) }
+    /// A string tag between quotes.
+    pub fn quoted(&mut self) -> Result<StringTag, LineFault>
+        ensures { Reads (Field.Quoted ∷ []) (λ x. quoted x ∷ []) self.old self.new result }
     {
-        if self.token()? == b"->".as_slice() {
-            Some(())
+        let token = self.token()?;
+        match token_text::read_quoted(token.text) {
+            Ok(value) => Ok(value),
+            Err(fault) => Err(token.bad(FaultKind::BadName, fault)),
+        }
+    }
+
+    /// A number without a sign.
+    pub fn num(&mut self) -> Result<u32, LineFault>
+        ensures { Reads (Field.Num ∷ []) (λ x. num x ∷ []) self.old self.new result }
+    {
+        let token = self.token()?;
+        match token_text::read_num(token.text) {
+            Ok(value) => Ok(value),
+            Err(fault) => Err(token.bad(FaultKind::BadNumber, fault)),
+        }
+    }
+
+    /// A number that may have a sign.
+    pub fn int(&mut self) -> Result<i32, LineFault>
+        ensures { Reads (Field.Int ∷ []) (λ x. int x ∷ []) self.old self.new result }
+    {
+        let token = self.token()?;
+        match token_text::read_int(token.text) {
+            Ok(value) => Ok(value),
+            Err(fault) => Err(token.bad(FaultKind::BadNumber, fault)),
+        }
+    }
+
+    /// The bytes of a message.
+    pub fn hex(&mut self) -> Result<Payload, LineFault>
+        ensures { Reads (Field.Hex ∷ []) (λ x. hex x ∷ []) self.old self.new result }
+    {
+        let token = self.token()?;
+        match token_text::read_hex(token.text) {
+            Ok(value) => Ok(value),
+            Err(fault) => Err(token.bad(FaultKind::BadHex, fault)),
+        }
+    }
+
+    /// A list of numbers.
+    pub fn list(&mut self) -> Result<Ints, LineFault>
+        ensures { Reads (Field.List ∷ []) (λ x. list x ∷ []) self.old self.new result }
+    {
+        let token = self.token()?;
+        match token_text::read_ints(token.text) {
+            Ok(value) => Ok(value),
+            Err(fault) => Err(token.bad(FaultKind::BadNumber, fault)),
+        }
+    }
+
+    /// A list of ranks to be translated.
+    pub fn null_list(&mut self) -> Result<RankArgs, LineFault>
+        ensures { Reads (Field.NullList ∷ []) (λ x. null_list x ∷ []) self.old self.new result }
+    {
+        let token = self.token()?;
+        match token_text::read_rank_args(token.text) {
+            Ok(value) => Ok(value),
+            Err(fault) => Err(token.bad(FaultKind::BadNumber, fault)),
+        }
+    }
+
+    /// A list of ranges of ranks.
+    pub fn triplet_list(&mut self) -> Result<Triplets, LineFault>
+        ensures { Reads (Field.TripletList ∷ []) (λ x. triplet_list x ∷ []) self.old self.new result }
+    {
+        let token = self.token()?;
+        match token_text::read_triplets(token.text) {
+            Ok(value) => Ok(value),
+            Err(fault) => Err(token.bad(FaultKind::BadNumber, fault)),
+        }
+    }
+
+    /// A rank to send to, or the null process.
+    pub fn dest(&mut self) -> Result<Option<u32>, LineFault>
+        ensures { Reads (Field.Dest ∷ []) (λ x. dest x ∷ []) self.old self.new result }
+    {
+        let token = self.token()?;
+        match token_text::read_num_or(b"null", token.text) {
+            Ok(value) => Ok(value),
+            Err(fault) => Err(token.bad(FaultKind::BadNumber, fault)),
+        }
+    }
+
+    /// A rank to receive from, any or the null process.
+    pub fn source(&mut self) -> Result<SrcArg, LineFault>
+        ensures { Reads (Field.Source ∷ []) (λ x. source x ∷ []) self.old self.new result }
+    {
+        let token = self.token()?;
+        match token_text::read_source(token.text) {
+            Ok(value) => Ok(value),
+            Err(fault) => Err(token.bad(FaultKind::BadNumber, fault)),
+        }
+    }
+
+    /// A tag, or any.
+    pub fn tag_or_any(&mut self) -> Result<Option<u32>, LineFault>
+        ensures { Reads (Field.TagOrAny ∷ []) (λ x. tag_or_any x ∷ []) self.old self.new result }
+    {
+        let token = self.token()?;
+        match token_text::read_num_or(b"any", token.text) {
+            Ok(value) => Ok(value),
+            Err(fault) => Err(token.bad(FaultKind::BadNumber, fault)),
+        }
+    }
+
+    /// A colour, or the undefined one.
+    pub fn colour(&mut self) -> Result<Option<i32>, LineFault>
+        ensures { Reads (Field.Colour ∷ []) (λ x. colour x ∷ []) self.old self.new result }
+    {
+        let token = self.token()?;
+        match token_text::read_int_or(b"undefined", token.text) {
+            Ok(value) => Ok(value),
+            Err(fault) => Err(token.bad(FaultKind::BadNumber, fault)),
+        }
+    }
+
+    fn arrow(&mut self) -> Result<(), LineFault>
+        ensures { Reads (Field.Arrow ∷ []) (λ _. arrow ∷ []) self.old self.new result }
+    {
+        let token = self.token()?;
+        if token.text == b"->".as_slice() {
+            Ok(())
         } else {
-            None
+            Err(token.fault(FaultKind::UnknownWord))
         }
     }
 
-    /// The name behind the arrow.
-    #[tactic(auto, unfolding(crate::specs::Tokens::target_at))]
-    fn target(&mut self) -> Option<Name>
-        ensures { MirrorsBy (λ n. n) result self.new (target_at self.old) }
+    /// The arrow, and the name behind it.
+    pub fn target(&mut self) -> Result<Name, LineFault>
+        ensures { Reads (Field.Arrow ∷ Field.Name ∷ []) (λ x. arrow ∷ name x ∷ []) self.old self.new result }
     {
         self.arrow()?;
         self.name()
     }
 
-    #[tactic(auto, unfolding(crate::specs::Tokens::session_at))]
-    fn session(&mut self) -> Option<Op>
-        ensures { MirrorsBy (λ op. op) result self.new (session_at self.old) }
+    /// That no token is left.
+    pub fn finish(&self) -> Result<(), LineFault>
+        ensures done { OnOk result (self.now.tokens ≡ []) }
+        ensures extra { IfErr result (λ e. end_fault (Ok self.now.tokens) ≡ Some e) }
     {
-        Some(Op::Session(self.name()?))
-    }
-
-    #[tactic(auto, unfolding(crate::specs::Tokens::pset_at))]
-    fn pset(&mut self) -> Option<Op>
-        ensures { MirrorsBy (λ op. op) result self.new (pset_at self.old) }
-    {
-        let session = self.name()?;
-        let set = self.pset_name()?;
-        Some(Op::Pset(session, set, self.target()?))
-    }
-
-    #[tactic(auto, unfolding(crate::specs::Tokens::create_at))]
-    fn create(&mut self) -> Option<Op>
-        ensures { MirrorsBy (λ op. op) result self.new (create_at self.old) }
-    {
-        let group = self.name()?;
-        let tag = self.tag()?;
-        Some(Op::Create(group, tag, self.target()?))
-    }
-
-    #[tactic(auto, unfolding(crate::specs::Tokens::dup_at))]
-    fn dup(&mut self) -> Option<Op>
-        ensures { MirrorsBy (λ op. op) result self.new (dup_at self.old) }
-    {
-        let comm = self.name()?;
-        Some(Op::Dup(comm, self.target()?))
-    }
-
-    #[tactic(auto, unfolding(crate::specs::Tokens::free_at))]
-    fn free(&mut self) -> Option<Op>
-        ensures { MirrorsBy (λ op. op) result self.new (free_at self.old) }
-    {
-        Some(Op::Free(self.name()?))
-    }
-
-    #[tactic(auto, unfolding(crate::specs::Tokens::fields_at))]
-    fn fields(&mut self, word: &[u8]) -> Option<Op>
-        ensures { MirrorsBy (λ op. op) result self.new (fields_at word.now self.old) }
-    {
-        match word {
-            b"session" => self.session(),
-            b"pset" => self.pset(),
-            b"create" => self.create(),
-            b"dup" => self.dup(),
-            b"free" => self.free(),
-            _ => None,
+        let mut ahead = Reader {
+            rest: self.rest,
+            column: self.column,
+        };
+        match ahead.token() {
+            Err(_) => Ok(()),
+            Ok(token) => Err(token.fault(FaultKind::Extra)),
         }
-    }
-
-    /// The operation in front.
-    #[tactic(auto, unfolding(crate::specs::Tokens::op_at))]
-    pub fn op(&mut self) -> Option<Op>
-        ensures { MirrorsBy (λ op. op) result self.new (op_at self.old) }
-    {
-        let word = self.token()?;
-        self.fields(word)
-    }
-
-    /// Whether no token is left.
-    pub fn is_done(&self) -> bool
-        ensures { result ≡ are_none self.now }
-    {
-        self.rest.is_none()
     }
 }

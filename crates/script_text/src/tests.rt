@@ -1,72 +1,172 @@
 //! Lines of a script, as examples.
-use crate::{Line, put, put_quoted, read_line, write_op};
-use mpi_base::{Name, Op, PsetName, StringTag};
+use crate::{FaultKind, Line, LineFault, is_blank, read_line, write_op};
+use mpi_base::{Name, Op, Payload, PsetName, SrcArg};
+use std::process::Abort;
+
+fn name(rt: &impl Abort, text: &[u8]) -> Name {
+    Name::new(text).expect(rt, "a name")
+}
+
+/// A line with these parts, the middle one so many times.
+fn line_with(front: &[u8], middle: &[u8], times: usize, back: &[u8]) -> Line {
+    let mut line = Line::new();
+    let _ = line.try_extend_from_slice(front);
+    for _ in 0..times {
+        let _ = line.try_extend_from_slice(middle);
+    }
+    let _ = line.try_extend_from_slice(back);
+    line
+}
+
+fn is_fault(line: &[u8], column: usize, kind: FaultKind) -> bool {
+    match read_line(line) {
+        Ok(_) => false,
+        Err(fault) => fault == LineFault { column, kind },
+    }
+}
+
+/// Whether the line is read as what is written as this text.
+fn is_written(rt: &impl Abort, line: &[u8], text: &[u8]) -> bool {
+    let op = read_line(line).ok().expect(rt, "a spelling");
+    let mut out = Line::new();
+    write_op(&op, &mut out);
+    out.as_slice() == text
+}
 
 #[test]
-fn lines_are_read_and_written_again(rt: HostRuntime) {
-    for line in [
-        b"session s".as_slice(),
-        b"pset s mpi://SELF -> g".as_slice(),
-        b"create g \"a\" -> c".as_slice(),
-        b"create g \"\" -> c_2".as_slice(),
-        b"dup c -> d".as_slice(),
-        b"free c".as_slice(),
+fn the_first_fault_is_answered(rt: HostRuntime) {
+    for (line, column, kind) in [
+        (b"dup c > d".as_slice(), 7, FaultKind::UnknownWord),
+        (b"dup c ->".as_slice(), 9, FaultKind::Missing),
+        (b"dup c -> ".as_slice(), 10, FaultKind::Missing),
+        (b"send c 0 1 0g".as_slice(), 12, FaultKind::BadHex),
+        (b"send c 0 1 0aB".as_slice(), 12, FaultKind::BadHex),
+        (b"send c 0 1 0ab".as_slice(), 12, FaultKind::BadHex),
+        (b"free c c".as_slice(), 8, FaultKind::Extra),
+        (b"dup 1c -> d".as_slice(), 5, FaultKind::BadName),
+        (b"nth s 01".as_slice(), 7, FaultKind::BadNumber),
+        (b"nth s 2147483648".as_slice(), 7, FaultKind::BadNumber),
+        (
+            b"session aaaaaaaaaaaaaaaaa".as_slice(),
+            9,
+            FaultKind::TooLong,
+        ),
+        (b"split c -0 1 -> d".as_slice(), 9, FaultKind::BadNumber),
+        (b"split c any 1 -> d".as_slice(), 9, FaultKind::BadNumber),
+        (b"create g \"a b\" -> c".as_slice(), 10, FaultKind::BadName),
+        (b"create g \"a\"b\" -> c".as_slice(), 10, FaultKind::BadName),
+        (b"info s mpi://WORLD?".as_slice(), 8, FaultKind::BadName),
+        (b"incl g [1,] -> h".as_slice(), 8, FaultKind::BadNumber),
+        (b"incl g [null] -> h".as_slice(), 8, FaultKind::BadNumber),
+        (
+            b"range_incl g [0:1] -> h".as_slice(),
+            14,
+            FaultKind::BadNumber,
+        ),
+        (
+            b"translate g [0,undefined] h".as_slice(),
+            13,
+            FaultKind::BadNumber,
+        ),
+        (b"recv c null -1 8".as_slice(), 13, FaultKind::BadNumber),
+        (b"session\ts".as_slice(), 1, FaultKind::UnknownWord),
+        (b"session \ts".as_slice(), 9, FaultKind::BadName),
+        (b"  sessions s".as_slice(), 3, FaultKind::UnknownWord),
+        (b"".as_slice(), 1, FaultKind::Missing),
+        (b"   ".as_slice(), 4, FaultKind::Missing),
+        (b"nth 1 01 x".as_slice(), 5, FaultKind::BadName),
     ] {
-        let op = read_line(line).expect(&rt, "a line of an operation");
-        let mut out = Line::new();
-        write_op(&op, &mut out);
-        assert_eq!(rt; out.as_slice(), line);
+        assert!(rt; is_fault(line, column, kind));
     }
 }
 
 #[test]
-fn other_lines_are_not_read(rt: HostRuntime) {
+fn the_form_is_tested_before_the_length(rt: HostRuntime) {
+    let odd = line_with(b"send c 0 1 ", b"a", 513, b"");
+    assert!(rt; is_fault(odd.as_slice(), 12, FaultKind::BadHex));
+    let long = line_with(b"send c 0 1 ", b"ab", 257, b"");
+    assert!(rt; is_fault(long.as_slice(), 12, FaultKind::TooLong));
+    let full = line_with(b"send c 0 1 ", b"ab", 256, b"");
+    assert!(rt; is_written(&rt, full.as_slice(), full.as_slice()));
+    let long = line_with(b"incl g [", b"0,", 16, b"0] -> h");
+    assert!(rt; is_fault(long.as_slice(), 8, FaultKind::TooLong));
+    let bad = line_with(b"incl g [", b"0,", 16, b"00] -> h");
+    assert!(rt; is_fault(bad.as_slice(), 8, FaultKind::BadNumber));
+    let full = line_with(b"incl g [", b"0,", 15, b"0] -> h");
+    assert!(rt; is_written(&rt, full.as_slice(), full.as_slice()));
+}
+
+#[test]
+fn each_operation_is_read_and_written_again(rt: HostRuntime) {
     for line in [
-        b"session  s".as_slice(),
-        b" session s".as_slice(),
-        b"session s ".as_slice(),
-        b"session".as_slice(),
-        b"session s t".as_slice(),
-        b"session s\n".as_slice(),
-        b"session 2".as_slice(),
-        b"pset s mpi://SELF g".as_slice(),
-        b"create g a -> c".as_slice(),
-        b"dup c d".as_slice(),
-        b"dup -> d".as_slice(),
-        b"dup c -> ".as_slice(),
-        b"dup c  -> d".as_slice(),
-        b"dup c -> d e".as_slice(),
-        b"dup \"c\" -> d".as_slice(),
-        b"free".as_slice(),
-        b"free c d".as_slice(),
-        b"free  c".as_slice(),
-        b"free -> c".as_slice(),
-        b"".as_slice(),
+        b"session s".as_slice(),
+        b"finalize s".as_slice(),
+        b"psets s".as_slice(),
+        b"nth s 0".as_slice(),
+        b"info s mpi://WORLD".as_slice(),
+        b"pset s app/ocean_1.x-y -> g".as_slice(),
+        b"union g h -> u".as_slice(),
+        b"intersect g h -> u".as_slice(),
+        b"difference g h -> u".as_slice(),
+        b"incl g [2,-1,0] -> h".as_slice(),
+        b"excl g [] -> h".as_slice(),
+        b"range_incl g [0:6:2,5:1:-2] -> h".as_slice(),
+        b"range_excl g [] -> h".as_slice(),
+        b"translate g [0,null,-2147483648] h".as_slice(),
+        b"compare g h".as_slice(),
+        b"size g".as_slice(),
+        b"rank g".as_slice(),
+        b"gfree g".as_slice(),
+        b"create g \"\" -> c".as_slice(),
+        b"dup c -> d".as_slice(),
+        b"split c undefined -2 -> d".as_slice(),
+        b"split c 3 2147483647 -> d".as_slice(),
+        b"create_group c g 32767 -> d".as_slice(),
+        b"group c -> g".as_slice(),
+        b"ccompare c d".as_slice(),
+        b"csize c".as_slice(),
+        b"crank c".as_slice(),
+        b"free c_1".as_slice(),
+        b"send c null 0 -".as_slice(),
+        b"send c 2147483647 7 00ff".as_slice(),
+        b"recv c any any 256".as_slice(),
+        b"irecv c null 3 0 -> r".as_slice(),
+        b"wait r".as_slice(),
+        b"await c".as_slice(),
     ] {
-        assert!(rt; read_line(line).is_none());
+        assert!(rt; is_written(&rt, line, line));
     }
+    assert!(rt; is_written(&rt, b"  dup   c  ->  d", b"dup c -> d"));
+    assert!(rt; is_written(&rt, b"free c  ", b"free c"));
 }
 
 #[test]
 fn fields_stand_in_written_order(rt: HostRuntime) {
-    let session = Name::new(b"s").expect(&rt, "a name");
-    let set = PsetName::new(b"mpi://WORLD").expect(&rt, "a name of a process set");
-    let target = Name::new(b"g").expect(&rt, "a name");
-    let op = read_line(b"pset s mpi://WORLD -> g");
-    assert!(rt; op == Some(Op::Pset(session, set, target)));
-    let comm = Name::new(b"c").expect(&rt, "a name");
-    let target = Name::new(b"d").expect(&rt, "a name");
-    let op = read_line(b"dup c -> d");
-    assert!(rt; op == Some(Op::Dup(comm, target)));
-    let comm = Name::new(b"c").expect(&rt, "a name");
-    assert!(rt; read_line(b"free c") == Some(Op::Free(comm)));
+    let set = PsetName::new(b"mpi://SELF").expect(&rt, "a name of a process set");
+    let op = Op::Pset(name(&rt, b"s"), set, name(&rt, b"g"));
+    assert!(rt; read_line(b"pset s mpi://SELF -> g") == Ok(op));
+    let op = Op::Dup(name(&rt, b"c"), name(&rt, b"d"));
+    assert!(rt; read_line(b"dup c -> d") == Ok(op));
+    let op = Op::Split(name(&rt, b"c"), Some(-1), 4, name(&rt, b"d"));
+    assert!(rt; read_line(b"split c -1 4 -> d") == Ok(op));
+    let bytes = Payload::new(&[0, 171]).expect(&rt, "a payload");
+    let op = Op::Send(name(&rt, b"c"), Some(1), 5, bytes);
+    assert!(rt; read_line(b"send c 1 5 00ab") == Ok(op));
+    let op = Op::Recv(name(&rt, b"c"), SrcArg::At(2), Some(5), 9);
+    assert!(rt; read_line(b"recv c 2 5 9") == Ok(op));
 }
 
 #[test]
-fn texts_are_added(rt: HostRuntime) {
-    let tag = StringTag::new(b"a").expect(&rt, "a tag");
-    let mut out = Line::new();
-    put(&mut out, b"tag ");
-    put_quoted(&mut out, &tag);
-    assert_eq!(rt; out.as_slice(), b"tag \"a\"".as_slice());
+fn blank_lines_have_no_operation(rt: HostRuntime) {
+    for line in [
+        b"".as_slice(),
+        b"   ".as_slice(),
+        b"#".as_slice(),
+        b"  # dup c -> d".as_slice(),
+    ] {
+        assert!(rt; is_blank(line));
+    }
+    for line in [b"free c".as_slice(), b" a#".as_slice(), b"\t".as_slice()] {
+        assert!(rt; !is_blank(line));
+    }
 }

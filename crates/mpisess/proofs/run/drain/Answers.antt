@@ -1,12 +1,13 @@
 use Rattle.std.proofs.Common.{◌≡◌, ◌++◌, ◌∷◌, List, [], sym, subst, ap, ◌∙◌}
 use Rattle.mpi_base.specs.declared.entries.Entry.{Entry}
-use Rattle.mpi_protocol.specs.Rank.{Rank}
+use Rattle.mpi_law.specs.declared.setting.Setting.{Setting}
+use Rattle.mpi_protocol.specs.Rank.{Rank, fresh}
 use Rattle.mpi_protocol.specs.Step.{Steps}
-use Rattle.mpisess.proofs.Draining.{Draining, draining_first, draining_on, falls, few_steps}
+use Rattle.mpisess.proofs.Draining.{Draining, draining_first, draining_on, falls, few_steps, calls_alone, of_one_rank}
 use Rattle.mpisess.proofs.run.drain.Goals as goal
 
 pub loop-act-init : goal.loop-act-init
-loop-act-init c = draining_first _ _ _ c.in_ok-state.ensures c.none-journal.ensures
+loop-act-init c = draining_first _ _ _ (c.in_ok-state.ensures ∙ ap (λ (s : Setting). fresh s 0) c.in_ok-setting.ensures) c.none-journal.ensures
 
 pub make-requires-clause-sessions : goal.make-requires-clause-sessions
 make-requires-clause-sessions c = (few_steps _ _ _ _ c.requires c.loop-act.invariant c.reserve.ensures.same).sessions
@@ -31,3 +32,9 @@ loop-act-preserved c =
     let on = draining_on _ _ _ _ _ _ c.requires c.loop-act.invariant (made c) c.in-Some.ensures.found in
     let entries : c.push.new.self.entries ≡ c.loop-act.journal.entries ++ c.make.result ∷ [] = c.push.ensures.entries ∙ ap (λ (es : List Entry). es ++ c.make.result ∷ []) c.reserve-in-Some.ensures.same in
     subst (Draining _ _) (sym entries) on
+
+pub next_act-requires-clause-alone : goal.next_act-requires-clause-alone
+next_act-requires-clause-alone c = calls_alone _ _ _ c.loop-act.invariant
+
+pub next_act-requires-clause-one : goal.next_act-requires-clause-one
+next_act-requires-clause-one c = of_one_rank _ _ _ c.loop-act.invariant

@@ -17,7 +17,7 @@ pub returns-in-Some-next-4-clause-found : goal.returns-in-Some-next-4-clause-fou
 returns-in-Some-next-4-clause-found c = back_first _ _ _ c.in-Some-next-4.ensures.found (record { answers = c.in_default.ensures.none; settles = c.in_default-next.ensures.none; offers = c.in_default-next-2.ensures.none }) c.in_default-next-3.ensures.none
 
 pub returns-clause-found : goal.returns-clause-found
-returns-clause-found c = if_some c.next_call.result (λ act n. call_first _ _ act c.requires.alone (record { agree = record { answers = c.in_default.ensures.none; settles = c.in_default-next.ensures.none; offers = c.in_default-next-2.ensures.none }; leaves = c.in_default-next-3.ensures.none; backs = c.in_default-next-4.ensures.none }) n) c.next_call.ensures.found
+returns-clause-found c = if_some c.next_call.result (λ act n. call_first _ _ act c.requires.job.alone (record { agree = record { answers = c.in_default.ensures.none; settles = c.in_default-next.ensures.none; offers = c.in_default-next-2.ensures.none }; leaves = c.in_default-next-3.ensures.none; backs = c.in_default-next-4.ensures.none }) n) c.next_call.ensures.found
 
 pub returns-clause-none : goal.returns-clause-none
-returns-clause-none c = if_none c.next_call.result (none_first _ _ c.requires (record { agree = record { answers = c.in_default.ensures.none; settles = c.in_default-next.ensures.none; offers = c.in_default-next-2.ensures.none }; leaves = c.in_default-next-3.ensures.none; backs = c.in_default-next-4.ensures.none })) c.next_call.ensures.none
+returns-clause-none c = if_none c.next_call.result (none_first _ _ c.requires.job c.requires.one c.requires.alone (record { agree = record { answers = c.in_default.ensures.none; settles = c.in_default-next.ensures.none; offers = c.in_default-next-2.ensures.none }; leaves = c.in_default-next-3.ensures.none; backs = c.in_default-next-4.ensures.none })) c.next_call.ensures.none

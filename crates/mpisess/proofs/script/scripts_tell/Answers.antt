@@ -1,6 +1,12 @@
 use Rattle.mpisess.specs.Script.{lines_of}
-use Rattle.mpisess.proofs.Spelled.{spell_once}
+use Rattle.mpisess.proofs.Spelled.{spell_once, script_apart, one_fault}
 use Rattle.mpisess.proofs.script.scripts_tell.Goals as goal
 
-pub returns : goal.returns
-returns c = λ bytes xs ys p q. spell_once c.lines_tell.ensures.alone (lines_of bytes) xs ys p.spelled q.spelled
+pub returns-clause-scripts : goal.returns-clause-scripts
+returns-clause-scripts c = λ bytes xs ys p q. spell_once c.lines_tell.ensures.alone (lines_of bytes) xs ys p.spelled q.spelled
+
+pub returns-clause-apart : goal.returns-clause-apart
+returns-clause-apart c = script_apart c.lines_tell.ensures.alone c.lines_tell.ensures.good
+
+pub returns-clause-faults : goal.returns-clause-faults
+returns-clause-faults c = one_fault c.lines_tell.ensures.alone

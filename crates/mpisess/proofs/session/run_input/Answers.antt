@@ -1,10 +1,11 @@
 use Rattle.std.proofs.Common.{Err, ap, arith}
 use Rattle.mpisess.specs.Job.{solo_setting}
-use Rattle.mpisess.proofs.Sessions.{bad_is_not_built, tells_none, tells_script, solo_job, solo_run}
+use Rattle.mpisess.proofs.Sessions.{tells_fault, tells_script, solo_job, solo_run, stopped_by}
 use Rattle.mpisess.proofs.session.run_input.Goals as goal
 
 pub returns-in_err-scripts-clause-bad_job : goal.returns-in_err-scripts-clause-bad_job
-returns-in_err-scripts-clause-bad_job g c = λ e. tells_none _ _ _ _ c.in_ok-bytes.ensures.read c.deref.ensures.value (c.in_err-scripts.ensures.not_built (ap Err (bad_is_not_built _ _ e c.from_residual-in_err-scripts.ensures.1)))
+returns-in_err-scripts-clause-bad_job g c = λ fault e.
+    tells_fault _ _ _ fault c.in_ok-bytes.ensures.read c.deref.ensures.value (c.in_err-scripts.ensures.fault fault (ap Err (stopped_by _ _ fault e c.from_residual-in_err-scripts.ensures.1)))
 
 pub drain-requires : goal.drain-requires
 drain-requires g c = solo_job _ _ c.in_ok-scripts.ensures.solo c.in_ok-scripts.ensures.spelled
@@ -21,4 +22,4 @@ returns-clause-script g c =
     let run = c.in_ok-journal.ensures.run in
     let quiet = c.in_ok-journal.ensures.quiet in
     let calls = c.quiet_ends_have_called_all.ensures solo_setting _ c.in_ok-journal.journal.entries 0 0 run.run run.drained quiet (omega arith) (omega arith) in
-    tells_script _ _ _ _ _ _ c.in_ok-bytes.ensures.read c.deref.ensures.value c.in_ok-scripts.ensures.spelled calls
+    tells_script _ _ _ _ _ c.in_ok-bytes.ensures.read c.deref.ensures.value c.in_ok-scripts.ensures.spelled calls

@@ -1,12 +1,10 @@
-use Rattle.std.proofs.Common.{◌∙◌}
-use Rattle.script_text.proofs.Laws.{read_found, read_none, read_only}
+use Rattle.std.proofs.Common.{lit<}
+use Rattle.script_text.proofs.Laws.{exact}
+use Rattle.script_text.proofs.Spelled.{line_only}
 use Rattle.script_text.proofs.lines.read_line.Goals as goal
 
-pub returns-clause-found : goal.returns-clause-found
-returns-clause-found c = rw c.read_tokens.ensures (read_found c.args.line.now)
-
-pub returns-clause-none : goal.returns-clause-none
-returns-clause-none c = read_none c.args.line.now c.read_tokens.result c.read_tokens.ensures
-
 pub returns-clause-only : goal.returns-clause-only
-returns-clause-only c = λ op h e. c.read_tokens.ensures ∙ read_only c.args.line.now op h e
+returns-clause-only c =
+    let e = c.forms_are_exact.ensures in
+    let all = exact e.name e.pset_name e.tag (e.number 2147483647 (lit< tt)) e.int e.hex e.ints e.rank_args e.triplets e.dest e.source e.any_tag e.colour in
+    line_only all c.args.line.now c.read_tokens.result c.read_tokens.ensures.found c.read_tokens.ensures.fault

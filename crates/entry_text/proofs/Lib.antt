@@ -1,0 +1,11 @@
+pub mod WordFacts
+pub mod Takes
+pub mod Rows
+pub mod Shown
+pub mod Received
+pub mod Adding
+pub mod Exact
+pub mod Fit
+pub mod Sure
+pub mod SurePackets
+pub mod SureReplies

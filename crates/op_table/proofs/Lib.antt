@@ -1,0 +1,2 @@
+pub mod WordFacts
+mod Examples

@@ -1,0 +1,10 @@
+pub mod Decimals
+pub mod Cuts
+pub mod Hex
+pub mod Ranges
+pub mod Seen
+pub mod RankLists
+pub mod Joined
+pub mod Marks
+pub mod Exact
+pub mod ExactLists
