@@ -1,3 +1,5 @@
 pub mod ScriptFacts
+pub mod Decided
 mod Examples
 mod LocalExamples
+pub mod Never

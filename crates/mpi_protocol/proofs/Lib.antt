@@ -1,1 +1,4 @@
-mod Examples
+pub mod Lines
+pub mod Examples
+pub mod Drained
+pub mod Never

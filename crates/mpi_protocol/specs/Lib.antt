@@ -1,6 +1,12 @@
+pub mod Packets
 pub mod Rank
-pub mod Agreement
+pub mod Moves
+pub mod Calls
+pub mod Answers
+pub mod Agreeing
+pub mod Delivers
 pub mod Step
 pub mod World
 pub mod Run
 pub mod Order
+pub mod Projection

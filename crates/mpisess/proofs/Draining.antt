@@ -6,22 +6,22 @@ use Rattle.mpi_base.specs.declared.entries.Choice.{Choice}
 use Rattle.mpi_base.specs.declared.entries.Entry.{Entry}
 use Rattle.mpi_base.specs.declared.ops.Op.{Op}
 use Rattle.mpi_law.specs.declared.setting.Setting.{Setting}
-use Rattle.mpi_law.specs.Local.{is_alone_in}
+use Rattle.solo_registry.specs.Local.{is_alone_in}
 use Rattle.mpi_law.specs.ScriptLists.{AllScripts, script_of}
-use Rattle.mpi_protocol.specs.Rank.{Rank, fresh, thread_at, round_of}
+use Rattle.solo_protocol.specs.Rank.{Rank, fresh, thread_at, round_of}
 use Rattle.std.specs.List.{All, AllByRecursion}
 use Rattle.std.proofs.lemmas.List.Elements.{All-from_recursion}
-use Rattle.mpi_protocol.specs.declared.rows.CommRow.{CommRow}
-use Rattle.mpi_protocol.specs.Step.{Steps}
-use Rattle.mpi_protocol.specs.World.{opening, rank_at, moved, entry_at}
-use Rattle.mpi_protocol.specs.Run.{IsProtocolRun, end_of}
-use Rattle.mpi_protocol.specs.Order.{IsDrained, IsFirstChoice}
-use Rattle.run_law.specs.Solo.{steps_left}
-use Rattle.run_law.proofs.Counters.{counters_below}
-use Rattle.run_law.proofs.Goes.{run_on, end_on, drained_on}
-use Rattle.run_law.proofs.Solos.{steps_fall}
-use Rattle.run_law.proofs.Runs.{run_sees}
-use Rattle.run_law.proofs.Sole.{solo_alone}
+use Rattle.solo_protocol.specs.declared.rows.CommRow.{CommRow}
+use Rattle.solo_protocol.specs.Step.{Steps}
+use Rattle.solo_protocol.specs.World.{opening, rank_at, moved, entry_at}
+use Rattle.solo_protocol.specs.Run.{IsProtocolRun, end_of}
+use Rattle.solo_protocol.specs.Order.{IsDrained, IsFirstChoice}
+use Rattle.solo_law.specs.Solo.{steps_left}
+use Rattle.solo_law.proofs.Counters.{counters_below}
+use Rattle.solo_law.proofs.Goes.{run_on, end_on, drained_on}
+use Rattle.solo_law.proofs.Solos.{steps_fall}
+use Rattle.solo_law.proofs.Runs.{run_sees}
+use Rattle.solo_law.proofs.Sole.{solo_alone}
 use Rattle.mpisess.specs.Job.{solo_setting, IsSoloJob, IsDrainedRun}
 
 -- the journal is that of a drained run, which ends in this state, and there are no more entries than the script allows

@@ -11,17 +11,18 @@ use Rattle.mpi_base.proofs.KeyFacts.{same_key-refl, key_before_total}
 use Rattle.mpi_base.specs.declared.ops.Op.{Op}
 use Rattle.mpi_base.specs.declared.entries.Act.{Act}
 use Rattle.mpi_base.specs.declared.entries.Act.TheVariants.{Call, Answer, Deliver, Offer as MakeOffer, Settle, Leave, Back}
-use Rattle.mpi_law.specs.Local.{is_alone_in}
-use Rattle.mpi_law.specs.ScriptLists.{AllScripts, script_of, next_op, is_built}
-use Rattle.mpi_protocol.specs.declared.rows.Stage.{Stage}
-use Rattle.mpi_protocol.specs.declared.rows.Stage.TheVariants.{Called, Waiting, Offered, Done}
-use Rattle.mpi_protocol.specs.Rank.{Rank, stage_of, thread_at, is_idle}
-use Rattle.mpi_protocol.specs.Step.{is_enabled, is_due}
-use Rattle.mpi_protocol.specs.World.{rank_at, may_happen}
-use Rattle.mpi_protocol.specs.Order.{IsFirstChoice, IsQuiet, IsOfScript, is_no_later, is_pair_le, is_call, is_offered}
-use Rattle.rank_core.specs.declared.next.StepKind.TheVariants as kind
-use Rattle.rank_core.specs.Next.{IsNext, NoneNext}
-use Rattle.run_law.specs.Solo.{IsSolo}
+use Rattle.solo_registry.specs.Local.{is_alone_in}
+use Rattle.mpi_law.specs.ScriptLists.{AllScripts, script_of, next_op}
+use Rattle.solo_registry.specs.Built.{is_built}
+use Rattle.solo_protocol.specs.declared.rows.Stage.{Stage}
+use Rattle.solo_protocol.specs.declared.rows.Stage.TheVariants.{Called, Waiting, Offered, Done}
+use Rattle.solo_protocol.specs.Rank.{Rank, stage_of, thread_at, is_idle}
+use Rattle.solo_protocol.specs.Step.{is_enabled, is_due}
+use Rattle.solo_protocol.specs.World.{rank_at, may_happen}
+use Rattle.solo_protocol.specs.Order.{IsFirstChoice, IsQuiet, IsOfScript, is_no_later, is_pair_le, is_call, is_offered}
+use Rattle.solo_rank.specs.declared.next.StepKind.TheVariants as kind
+use Rattle.solo_rank.specs.Next.{IsNext, NoneNext}
+use Rattle.solo_law.specs.Solo.{IsSolo}
 use Rattle.mpisess.specs.Calls.{IsNextCall, NoNextCall}
 use Rattle.mpisess.specs.Job.{IsSoloJob}
 

@@ -4,12 +4,12 @@ use Rattle.std.proofs.lemmas.List.{take_all, length-take}
 use Rattle.std.specs.Result.{IsErrAnd}
 use Rattle.mpi_base.specs.declared.entries.Entry.{Entry}
 use Rattle.mpi_base.specs.declared.ops.Op.{Op}
-use Rattle.mpi_law.specs.Registry.{IsRegistryRun, registry_opening, registry_after}
-use Rattle.mpi_law.specs.Closed.{is_closed}
+use Rattle.solo_registry.specs.Registry.{IsRegistryRun, registry_opening, registry_after}
+use Rattle.solo_registry.specs.Closed.{is_closed}
 use Rattle.mpi_law.specs.ScriptLists.{AllScripts, script_of}
-use Rattle.mpi_protocol.specs.World.{opening}
-use Rattle.mpi_protocol.specs.Run.{end_of, events_of, calls_of}
-use Rattle.mpi_protocol.specs.Order.{IsDrained, IsQuiet}
+use Rattle.solo_protocol.specs.World.{opening}
+use Rattle.solo_protocol.specs.Run.{end_of, events_of, calls_of}
+use Rattle.solo_protocol.specs.Order.{IsDrained, IsQuiet}
 use Rattle.mpisess.specs.Input.{ReadsFront, ReadsAll, ReadsWhole, TellsLong}
 use Rattle.mpisess.specs.Script.{lines_of, IsSoloScript, IsFault}
 use Rattle.mpisess.specs.Solo.{solo_of}

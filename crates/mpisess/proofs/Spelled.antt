@@ -2,7 +2,8 @@
 use Rattle.std.proofs.Common.{◌≡◌, ℕ, ◌+◌, ◌<◌, ◌≤◌, Bool, true, false, List, [], ◌∷◌, ◌++◌, length, Option, Some, None, refl, sym, ap, ◌∙◌, subst, arith, append_assoc, length-append}
 use Rattle.std.specs.List.{AllByRecursion}
 use Rattle.mpi_base.specs.declared.ops.Op.{Op}
-use Rattle.mpi_law.specs.ScriptLists.{AllScripts, script_of, is_built}
+use Rattle.mpi_law.specs.ScriptLists.{AllScripts, script_of}
+use Rattle.solo_registry.specs.Built.{is_built}
 use Rattle.script_text.specs.Spelling.{IsOp, Spells}
 use Rattle.script_text.specs.Faults.{fault_of}
 use Rattle.script_text.specs.declared.faults.LineFault.{LineFault}

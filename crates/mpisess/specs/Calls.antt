@@ -4,8 +4,8 @@ use Rattle.mpi_base.specs.declared.ops.Op.{Op}
 use Rattle.mpi_base.specs.declared.entries.Act.{Act}
 use Rattle.mpi_base.specs.declared.entries.Act.TheVariants.{Call}
 use Rattle.mpi_law.specs.ScriptLists.{AllScripts, next_op}
-use Rattle.mpi_protocol.specs.Rank.{Rank, thread_at}
-use Rattle.mpi_protocol.specs.Step.{is_enabled}
+use Rattle.solo_protocol.specs.Rank.{Rank, thread_at}
+use Rattle.solo_protocol.specs.Step.{is_enabled}
 
 -- thread 0 may call this next operation of its script
 pub record IsNextCall (x : Rank) (scripts : AllScripts) (act : Act) : Type 0 where

@@ -5,11 +5,12 @@ use Rattle.mpi_base.specs.declared.entries.Entry.{Entry}
 use Rattle.mpi_law.specs.declared.setting.Setting.{Setting}
 use Rattle.mpi_law.specs.declared.setting.TheConstants.{MOST_CONTEXTS}
 use Rattle.pset_reg.specs.Sets.{start_of}
-use Rattle.mpi_law.specs.ScriptLists.{AllScripts, script_of, is_built}
-use Rattle.mpi_protocol.specs.World.{opening}
-use Rattle.mpi_protocol.specs.Run.{IsProtocolRun}
-use Rattle.mpi_protocol.specs.Order.{IsDrained}
-use Rattle.run_law.specs.Solo.{IsSolo}
+use Rattle.mpi_law.specs.ScriptLists.{AllScripts, script_of}
+use Rattle.solo_registry.specs.Built.{is_built}
+use Rattle.solo_protocol.specs.World.{opening}
+use Rattle.solo_protocol.specs.Run.{IsProtocolRun}
+use Rattle.solo_protocol.specs.Order.{IsDrained}
+use Rattle.solo_law.specs.Solo.{IsSolo}
 
 -- one rank, the contexts from 1 to 63, and the two process sets that are always there
 abbrev pub solo_setting : Setting

@@ -2,7 +2,7 @@
 use Rattle.std.specs.Prelude.{◌≡◌, ◌+◌, ◌==◌, ℕ, ◌<◌, ◌≤◌, Bool, true, false, if◌then◌else◌, List, [], ◌∷◌, length, Option, Some, None}
 use Rattle.std.specs.List.{AllByRecursion}
 use Rattle.mpi_base.specs.declared.ops.Op.{Op}
-use Rattle.mpi_law.specs.ScriptLists.{is_built}
+use Rattle.solo_registry.specs.Built.{is_built}
 use Rattle.script_text.specs.Tokens.{is_blank_line}
 use Rattle.script_text.specs.Spelling.{IsOp, Spells}
 use Rattle.script_text.specs.Faults.{fault_of}

@@ -4,11 +4,11 @@ use Rattle.std.specs.declared.alloc.Global.{Global}
 use Rattle.mpi_base.specs.declared.entries.Entry.{Entry}
 use Rattle.mpi_base.specs.declared.ops.Op.{Op}
 use Rattle.mpi_law.specs.ScriptLists.{AllScripts}
-use Rattle.mpi_law.specs.Closed.{is_closed}
-use Rattle.mpi_law.specs.Registry.{Registry, IsRegistryRun, registry_opening, registry_after}
-use Rattle.mpi_protocol.specs.World.{opening}
-use Rattle.mpi_protocol.specs.Run.{IsProtocolRun, end_of, events_of, calls_of}
-use Rattle.mpi_protocol.specs.Order.{IsDrained, IsQuiet}
+use Rattle.solo_registry.specs.Closed.{is_closed}
+use Rattle.solo_registry.specs.Registry.{Registry, IsRegistryRun, registry_opening, registry_after}
+use Rattle.solo_protocol.specs.World.{opening}
+use Rattle.solo_protocol.specs.Run.{IsProtocolRun, end_of, events_of, calls_of}
+use Rattle.solo_protocol.specs.Order.{IsDrained, IsQuiet}
 use Rattle.mpisess.specs.declared.session.Status.{Status}
 use Rattle.mpisess.specs.declared.session.Status.TheVariants.{Fine, Usage, BadJob, ReadFault, WriteFault, TooLong, Memory}
 use Rattle.mpisess.specs.declared.session.Stop.{Stop}

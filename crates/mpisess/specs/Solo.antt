@@ -2,7 +2,8 @@
 use Rattle.std.specs.Prelude.{◌≡◌, ℕ, true, false, List, [], ◌∷◌, ◌++◌}
 use Rattle.std.specs.List.{AllByRecursion}
 use Rattle.mpi_base.specs.declared.ops.Op.{Op}
-use Rattle.mpi_law.specs.ScriptLists.{AllScripts, script_of, is_built}
+use Rattle.mpi_law.specs.ScriptLists.{AllScripts, script_of}
+use Rattle.solo_registry.specs.Built.{is_built}
 use Rattle.script_text.specs.Spelling.{IsOp, Spells}
 use Rattle.mpisess.specs.Script.{body_of, is_blank, Spell}
 

@@ -1,12 +1,12 @@
 //! The drain: the script of one rank, run to its end.
 ghost use Rattle.std.specs.Prelude.{◌≡◌, ◌<◌, ◌≤◌, ◌^◌, ◌-◌, ◌∷◌, [], ℕ, true, IfOk, IfSome, IfNone, option_copied, All};
 ghost use Rattle.mpi_base.specs.declared.ops.Op.{Op as AnyOp};
-ghost use Rattle.mpi_law.specs.Local.{is_alone_in};
+ghost use Rattle.solo_registry.specs.Local.{is_alone_in};
 ghost use Rattle.mpi_law.specs.ScriptLists.{next_op as next_op_of};
-ghost use Rattle.mpi_protocol.specs.Rank.{thread_at, round_of};
-ghost use Rattle.mpi_protocol.specs.Step.{is_enabled, Steps};
-ghost use Rattle.mpi_protocol.specs.Order.{IsFirstChoice, IsQuiet};
-ghost use Rattle.mpi_protocol.specs.Run.{end_of};
+ghost use Rattle.solo_protocol.specs.Rank.{thread_at, round_of};
+ghost use Rattle.solo_protocol.specs.Step.{is_enabled, Steps};
+ghost use Rattle.solo_protocol.specs.Order.{IsFirstChoice, IsQuiet};
+ghost use Rattle.solo_protocol.specs.Run.{end_of};
 ghost use Rattle.mpi_base.specs.declared.keys.Key.{Key};
 ghost use Rattle.mpisess.specs.Calls.{IsNextCall, NoNextCall};
 ghost use Rattle.mpisess.specs.Job.{solo_setting, IsSoloJob, IsDrainedRun};
@@ -14,7 +14,7 @@ ghost use Rattle.mpisess.specs.Job.{solo_setting, IsSoloJob, IsDrainedRun};
 use mpi_base::{Act, Entry, Op, OutOfMemory};
 use mpi_law::{MOST_CONTEXTS, Scripts, Setting};
 use pset_reg::Psets;
-use rank_core::{Journal, RankState, StepKind};
+use solo_rank::{Journal, RankState, StepKind};
 use std::alloc::Global;
 
 /// The setting of a job with one rank: all contexts, and the process sets that are always there
@@ -103,7 +103,7 @@ fn next_op(scripts: &Scripts, calls: u64) -> Option<&Op>
 }
 
 /// Makes a step.
-#[tactic(auto, unfolding(mpi_protocol::specs::Step::is_enabled))]
+#[tactic(auto, unfolding(solo_protocol::specs::Step::is_enabled))]
 fn make(state: &mut RankState<1>, act: Act) -> Entry
     requires enabled { is_enabled state.old.state act ≡ true }
     requires room { 1 ≤ state.old.spare }

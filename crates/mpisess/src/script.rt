@@ -8,8 +8,9 @@ ghost use Rattle.mpisess.specs.Solo.{solo_of, AddsLine, IsUnbuilt};
 use crate::faults::{JobFault, ScriptError};
 use crate::lines::{MOST_LINES, are_many, body, first_fault, first_line};
 use mpi_base::OutOfMemory;
-use mpi_law::{Scripts, is_built};
+use mpi_law::Scripts;
 use script_text::{is_blank, lines_tell, read_line};
+use solo_registry::is_built;
 use std::alloc::Global;
 
 /// The script that the bytes spell, as that of thread 0 of the only rank. The other seven threads

@@ -5,11 +5,11 @@ ghost use Rattle.io_edge.specs.Counts.{Rose};
 ghost use Rattle.io_edge.specs.Sink.{Takes, TakesFront};
 ghost use Rattle.history_text.specs.Text.{journal_text};
 ghost use Rattle.mpi_base.specs.declared.ops.Op.{Op};
-ghost use Rattle.mpi_law.specs.Closed.{is_closed};
-ghost use Rattle.mpi_law.specs.Registry.{IsRegistryRun, registry_opening};
-ghost use Rattle.mpi_protocol.specs.World.{opening};
-ghost use Rattle.mpi_protocol.specs.Run.{IsProtocolRun, end_of, events_of, calls_of};
-ghost use Rattle.mpi_protocol.specs.Order.{IsDrained, IsQuiet};
+ghost use Rattle.solo_registry.specs.Closed.{is_closed};
+ghost use Rattle.solo_registry.specs.Registry.{IsRegistryRun, registry_opening};
+ghost use Rattle.solo_protocol.specs.World.{opening};
+ghost use Rattle.solo_protocol.specs.Run.{IsProtocolRun, end_of, events_of, calls_of};
+ghost use Rattle.solo_protocol.specs.Order.{IsDrained, IsQuiet};
 ghost use Rattle.mpisess.specs.Job.{solo_setting};
 ghost use Rattle.mpisess.specs.Input.{ReadsAll, TellsLong};
 ghost use Rattle.mpisess.specs.Script.{IsSoloScript, IsFault};
@@ -22,8 +22,8 @@ use crate::run::drain;
 use crate::script::{read_script, scripts_tell};
 use io_edge::{Failed, Sink, Source};
 use mpi_base::OutOfMemory;
-use rank_core::Journal;
-use run_law::{quiet_ends_are_closed, quiet_ends_have_called_all, runs_are_registry_runs};
+use solo_law::{quiet_ends_are_closed, quiet_ends_have_called_all, runs_are_registry_runs};
+use solo_rank::Journal;
 use std::alloc::Global;
 
 /// How a session ended.

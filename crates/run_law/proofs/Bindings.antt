@@ -1,14 +1,15 @@
--- Each name is bound once, and each communicator by one name, whatever a call or an answer binds.
-use Rattle.std.proofs.Common.{◌≡◌, ℕ, ◌+◌, ◌≤◌, ◌==◌, not, if◌then◌else◌, Bool, true, false, List, [], ◌∷◌, ◌++◌, filter, find, option_map, Some, bytes_eq, refl, ap, subst, arith}
+-- Each name is bound once, and each communicator by one name, whatever a call or an answer binds; and what is bound fits.
+use Rattle.std.proofs.Common.{◌≡◌, ℕ, ◌+◌, ◌≤◌, ◌==◌, not, if◌then◌else◌, Bool, true, false, List, [], ◌∷◌, ◌++◌, filter, find, option_map, Option, Some, None, bytes_eq, refl, ap, subst, arith}
 use Rattle.std.specs.Option.{is_some}
 use Rattle.std.proofs.lemmas.Bool.Decides.{nat_tests}
 use Rattle.mpi_base.proofs.KeyFacts.{same_bytes}
 use Rattle.local_law.specs.Names.{bound_of, bind, rebind, unbind}
 use Rattle.local_law.specs.Objects as bound
-use Rattle.mpi_law.specs.Local.{Bound, NameRow, Local, Effect, Says, Joins, Frees}
+use Rattle.mpi_law.specs.Local.Objects.{Bound, NameRow}
+use Rattle.mpi_law.specs.Registry.State.{Communicator}
+use Rattle.comm_law.specs.declared.rows.CommRow.{CommRow}
 use Rattle.run_law.proofs.Lists.{tally, one}
-use Rattle.run_law.proofs.Shapes.{Shape, told, opened, grouped, ungrouped, asked, freed}
-use Rattle.run_law.proofs.Fits.{is_comm, binds, is_name, NamesApart}
+use Rattle.run_law.proofs.Locals.{BoundFits, NamesFit, is_comm, binds, is_name}
 
 -- How many names pass a test
 
@@ -16,7 +17,7 @@ pub tally-snoc : {A : Type 0} (p : A → Bool) (xs : List A) (y : A) → tally p
 tally-snoc p [] y = omega arith
 tally-snoc p (x ∷ xs) y = let ih = tally-snoc p xs y in omega (arith, ih)
 
-tally-filter : {A : Type 0} (p q : A → Bool) (xs : List A) → tally p (filter q xs) ≤ tally p xs
+pub tally-filter : {A : Type 0} (p q : A → Bool) (xs : List A) → tally p (filter q xs) ≤ tally p xs
 tally-filter p q [] = omega arith
 tally-filter p q (x ∷ xs) = let ih = tally-filter p q xs in go (q x) ih
   where
@@ -25,7 +26,7 @@ tally-filter p q (x ∷ xs) = let ih = tally-filter p q xs in go (q x) ih
     go false ih = omega (arith, ih)
 
 -- a name that is bound to nothing
-unbound_none : (names : List NameRow) (n : List ℕ) → is_some (bound_of names n) ≡ false → tally (is_name n) names ≡ 0
+pub unbound_none : (names : List NameRow) (n : List ℕ) → is_some (bound_of names n) ≡ false → tally (is_name n) names ≡ 0
 unbound_none [] n e = refl
 unbound_none (x ∷ xs) n e = go (bytes_eq x.0 n) refl e (unbound_none xs n)
   where
@@ -34,7 +35,7 @@ unbound_none (x ∷ xs) n e = go (bytes_eq x.0 n) refl e (unbound_none xs n)
     go false t h ih = let z = ih h in grind (arith, t, z)
 
 -- a name that is bound to a communicator
-bound_some : (names : List NameRow) (n : List ℕ) (c s : ℕ) → bound_of names n ≡ Some (bound.Comm c s) → 1 ≤ tally (binds c) names
+pub bound_some : (names : List NameRow) (n : List ℕ) (c s : ℕ) → bound_of names n ≡ Some (bound.Comm c s) → 1 ≤ tally (binds c) names
 bound_some [] n c s e = absurd (cc (e))
 bound_some (x ∷ xs) n c s e = go (bytes_eq x.0 n) e (bound_some xs n c s)
   where
@@ -65,27 +66,21 @@ unbinds (x ∷ xs) n c s e few = go (bytes_eq x.0 n) e (tally-filter (binds c) (
 
 -- What is bound
 
-apart_bind : (names : List NameRow) (n : List ℕ) (b : Bound) → NamesApart names → is_some (bound_of names n) ≡ false → ((c : ℕ) → is_comm c b ≡ false) → NamesApart (bind names n b)
-apart_bind names n b a free plain = record {
-  each = λ m. rw (tally-snoc (is_name m) names ((n, b))) (go m (bytes_eq n m) refl (a.each m));
-  comms = λ c. (let t = tally-snoc (binds c) names ((n, b)) in let o : one (is_comm c b) ≡ 0 = ap one (plain c) in let k = a.comms c in omega (arith, t, o, k));
-}
+pub each_bind : (names : List NameRow) (n : List ℕ) (b : Bound) → ((m : List ℕ) → tally (is_name m) names ≤ 1) → is_some (bound_of names n) ≡ false → (m : List ℕ) → tally (is_name m) (bind names n b) ≤ 1
+each_bind names n b each free m = rw (tally-snoc (is_name m) names ((n, b))) (go (bytes_eq n m) refl (each m))
   where
-    go : (m : List ℕ) (t : Bool) → bytes_eq n m ≡ t → tally (is_name m) names ≤ 1 → tally (is_name m) names + one (bytes_eq n m) ≤ 1
-    go m true e k =
+    go : (t : Bool) → bytes_eq n m ≡ t → tally (is_name m) names ≤ 1 → tally (is_name m) names + one (bytes_eq n m) ≤ 1
+    go true e k =
         let is = same_bytes n m e in
         let none : tally (is_name m) names ≡ 0 = subst (λ (z : List ℕ). tally (is_name z) names ≡ 0) is (unbound_none names n free) in
         let o : one (bytes_eq n m) ≡ 1 = ap one e in
         omega (arith, none, o)
-    go m false e k = let o : one (bytes_eq n m) ≡ 0 = ap one e in omega (arith, o, k)
+    go false e k = let o : one (bytes_eq n m) ≡ 0 = ap one e in omega (arith, o, k)
 
-pub apart_unbind : (names : List NameRow) (n : List ℕ) → NamesApart names → NamesApart (unbind names n)
-apart_unbind names n a = record {
-  each = λ m. (let t = tally-filter (is_name m) (λ (q : NameRow). not (bytes_eq q.0 n)) names in let k = a.each m in omega (arith, t, k));
-  comms = λ c. (let t = tally-filter (binds c) (λ (q : NameRow). not (bytes_eq q.0 n)) names in let k = a.comms c in omega (arith, t, k));
-}
+pub unbound_bind : (names : List NameRow) (n : List ℕ) (b : Bound) (c k : ℕ) → is_comm c b ≡ false → tally (binds c) names ≤ k → tally (binds c) (bind names n b) ≤ k
+unbound_bind names n b c k plain z = let t = tally-snoc (binds c) names ((n, b)) in let o : one (is_comm c b) ≡ 0 = ap one plain in omega (arith, t, o, z)
 
-rebind_names : (names : List NameRow) (n m : List ℕ) (b : Bound) → tally (is_name m) (rebind names n b) ≡ tally (is_name m) names
+pub rebind_names : (names : List NameRow) (n m : List ℕ) (b : Bound) → tally (is_name m) (rebind names n b) ≡ tally (is_name m) names
 rebind_names [] n m b = refl
 rebind_names (x ∷ xs) n m b = let ih = rebind_names xs n m b in go (bytes_eq x.0 n) ih
   where
@@ -105,19 +100,16 @@ rebind_comms (x ∷ xs) n c s d = go (bytes_eq x.0 n) refl (c == d) refl (rebind
     go false e true v ih = let o : one (bytes_eq x.0 n) ≡ 0 = ap one e in omega (arith, o, ih)
     go false e false v ih = omega (arith, ih)
 
-pub apart_rebind : (names : List NameRow) (n : List ℕ) (c s : ℕ) → NamesApart names → tally (binds c) names ≡ 0 → NamesApart (rebind names n (bound.Comm c s))
-apart_rebind names n c s a none = record {
-  each = λ m. rw (rebind_names names n m (bound.Comm c s)) (a.each m);
-  comms = λ d. go d (c == d) refl (rebind_comms names n c s d) (a.comms d);
-}
+pub once_rebind : (names : List NameRow) (n : List ℕ) (c s : ℕ) → ((m : List ℕ) → tally (is_name m) names ≤ 1) → ((d : ℕ) → tally (binds d) names ≤ 1) → tally (binds c) names ≡ 0 → (d : ℕ) → tally (binds d) (rebind names n (bound.Comm c s)) ≤ 1
+once_rebind names n c s each once none d = go (c == d) refl (rebind_comms names n c s d) (once d)
   where
-    go : (d : ℕ) (u : Bool) → (c == d) ≡ u → tally (binds d) (rebind names n (bound.Comm c s)) ≤ tally (binds d) names + (if u then tally (is_name n) names else 0) → tally (binds d) names ≤ 1 → tally (binds d) (rebind names n (bound.Comm c s)) ≤ 1
-    go d true e le k =
+    go : (u : Bool) → (c == d) ≡ u → tally (binds d) (rebind names n (bound.Comm c s)) ≤ tally (binds d) names + (if u then tally (is_name n) names else 0) → tally (binds d) names ≤ 1 → tally (binds d) (rebind names n (bound.Comm c s)) ≤ 1
+    go true e le k =
         let is : c ≡ d = grind (arith, nat_tests, e) in
         let z : tally (binds d) names ≡ 0 = subst (λ (i : ℕ). tally (binds i) names ≡ 0) is none in
-        let m = a.each n in
+        let m = each n in
         omega (arith, le, z, m)
-    go d false e le k = omega (arith, le, k)
+    go false e le k = omega (arith, le, k)
 
 -- a communicator that has no name gets none where another name is bound to another one, or a name is unbound
 pub other_rebind : (names : List NameRow) (n : List ℕ) (c s d : ℕ) → (c ≡ d → ⊥) → tally (binds d) names ≡ 0 → tally (binds d) (rebind names n (bound.Comm c s)) ≡ 0
@@ -130,50 +122,57 @@ other_rebind names n c s d ne z = go (c == d) refl (rebind_comms names n c s d)
 pub other_unbind : (names : List NameRow) (n : List ℕ) (d : ℕ) → tally (binds d) names ≡ 0 → tally (binds d) (unbind names n) ≡ 0
 other_unbind names n d z = let t = tally-filter (binds d) (λ (q : NameRow). not (bytes_eq q.0 n)) names in omega (arith, t, z)
 
--- What a call binds
+pub fewer_unbind : (names : List NameRow) (p : NameRow → Bool) (n : List ℕ) (k : ℕ) → tally p names ≤ k → tally p (unbind names n) ≤ k
+fewer_unbind names p n k z = let t = tally-filter p (λ (q : NameRow). not (bytes_eq q.0 n)) names in omega (arith, t, z)
 
-abbrev pub local_of : Effect → Local
-local_of (Says l r) = l
-local_of (Joins l a) = l
-local_of (Frees l c) = l
+-- What is bound fits
 
--- a call that frees a communicator had a name for it
-abbrev pub FreesBound : List NameRow → Effect → Type 0
-FreesBound names (Says l r) = Unit {0}
-FreesBound names (Joins l a) = Unit {0}
-FreesBound names (Frees l c) = 1 ≤ tally (binds c) names
+module _ (comms : List Communicator) (rows : List CommRow) (r : ℕ) where
+  pub names-bind : (xs ys : List NameRow) (n : List ℕ) (a b : Bound) → NamesFit comms rows r xs ys → BoundFits comms rows r a b → NamesFit comms rows r (bind xs n a) (bind ys n b)
+  names-bind [] [] n a b h f = (refl, f, tt)
+  names-bind [] (y ∷ ys) n a b h f = absurd h
+  names-bind (x ∷ xs) [] n a b h f = absurd h
+  names-bind (x ∷ xs) (y ∷ ys) n a b h f = (h.0, h.1, names-bind xs ys n a b h.2 f)
 
--- what a call leaves of the names
-pub record EffectNames (names : List NameRow) (e : Effect) : Type 0 where
-  pub apart : NamesApart (local_of e).names
-  pub unbound : (c : ℕ) → tally (binds c) names ≡ 0 → tally (binds c) (local_of e).names ≡ 0
-  pub frees : FreesBound names e
+  pub names-rebind : (xs ys : List NameRow) (n : List ℕ) (a b : Bound) → NamesFit comms rows r xs ys → BoundFits comms rows r a b → NamesFit comms rows r (rebind xs n a) (rebind ys n b)
+  names-rebind [] [] n a b h f = tt
+  names-rebind [] (y ∷ ys) n a b h f = absurd h
+  names-rebind (x ∷ xs) [] n a b h f = absurd h
+  names-rebind (x ∷ xs) (y ∷ ys) n a b h f =
+      let q = go (bytes_eq x.0 n) (bytes_eq y.0 n) (ap (λ (z : List ℕ). bytes_eq z n) h.0) in
+      (q.0, q.1, names-rebind xs ys n a b h.2 f)
+    where
+      go : (t u : Bool) → u ≡ t → ((if u then (y.0, b) else y).0 ≡ (if t then (x.0, a) else x).0) × BoundFits comms rows r (if t then (x.0, a) else x).1 (if u then (y.0, b) else y).1
+      go true true e = (h.0, f)
+      go false false e = (h.0, h.1)
+      go true false e = absurd (cc (e))
+      go false true e = absurd (cc (e))
 
--- a name that was free is bound to something that is no communicator
-unbound_bind : (names : List NameRow) (n : List ℕ) (b : Bound) (c : ℕ) → is_comm c b ≡ false → tally (binds c) names ≡ 0 → tally (binds c) (bind names n b) ≡ 0
-unbound_bind names n b c plain z = let t = tally-snoc (binds c) names ((n, b)) in let o : one (is_comm c b) ≡ 0 = ap one plain in omega (arith, t, o, z)
+  pub names-unbind : (xs ys : List NameRow) (n : List ℕ) → NamesFit comms rows r xs ys → NamesFit comms rows r (unbind xs n) (unbind ys n)
+  names-unbind [] [] n h = tt
+  names-unbind [] (y ∷ ys) n h = absurd h
+  names-unbind (x ∷ xs) [] n h = absurd h
+  names-unbind (x ∷ xs) (y ∷ ys) n h = go (bytes_eq x.0 n) (bytes_eq y.0 n) (ap (λ (z : List ℕ). bytes_eq z n) h.0) (names-unbind xs ys n h.2)
+    where
+      go : (t u : Bool) → u ≡ t → NamesFit comms rows r (unbind xs n) (unbind ys n) → NamesFit comms rows r (if not t then x ∷ unbind xs n else unbind xs n) (if not u then y ∷ unbind ys n else unbind ys n)
+      go true true e ih = ih
+      go false false e ih = (h.0, h.1, ih)
+      go true false e ih = absurd (cc (e))
+      go false true e ih = absurd (cc (e))
 
--- what a call of any shape leaves of the names
-pub shape_names : (l : Local) (e : Effect) → NamesApart l.names → Shape l e → EffectNames l.names e
-shape_names l e a (told said) = record { apart = a; unbound = λ d z. z; frees = tt }
-shape_names l e a (opened target free) = record {
-  apart = apart_bind l.names target (bound.Session (l.opened + 1)) a free (λ c. refl);
-  unbound = λ c z. unbound_bind l.names target (bound.Session (l.opened + 1)) c refl z;
-  frees = tt;
-}
-shape_names l e a (grouped target members session free) = record {
-  apart = apart_bind l.names target (bound.Group members session) a free (λ c. refl);
-  unbound = λ c z. unbound_bind l.names target (bound.Group members session) c refl z;
-  frees = tt;
-}
-shape_names l e a (ungrouped group) = record { apart = apart_unbind l.names group a; unbound = λ d z. other_unbind l.names group d z; frees = tt }
-shape_names l e a (asked origin target session free) = record {
-  apart = apart_bind l.names target bound.Reserved a free (λ c. refl);
-  unbound = λ c z. unbound_bind l.names target bound.Reserved c refl z;
-  frees = tt;
-}
-shape_names l e a (freed comm c session there) = record {
-  apart = apart_unbind l.names comm a;
-  unbound = λ d z. other_unbind l.names comm d z;
-  frees = bound_some l.names comm c session there;
-}
+  -- what a name is bound to, on both sides
+  pub data BothBound : Option Bound → Option Bound → Type 0 where
+    neither : BothBound None None
+    both : (a b : Bound) → BoundFits comms rows r a b → BothBound (Some a) (Some b)
+
+  pub bound-fits : (xs ys : List NameRow) (n : List ℕ) → NamesFit comms rows r xs ys → BothBound (bound_of xs n) (bound_of ys n)
+  bound-fits [] [] n h = neither
+  bound-fits [] (y ∷ ys) n h = absurd h
+  bound-fits (x ∷ xs) [] n h = absurd h
+  bound-fits (x ∷ xs) (y ∷ ys) n h = go (bytes_eq x.0 n) (bytes_eq y.0 n) (ap (λ (z : List ℕ). bytes_eq z n) h.0) (bound-fits xs ys n h.2)
+    where
+      go : (t u : Bool) → u ≡ t → BothBound (bound_of xs n) (bound_of ys n) → BothBound (option_map (λ (q : NameRow). q.1) (if t then Some x else find (λ (q : NameRow). bytes_eq q.0 n) xs)) (option_map (λ (q : NameRow). q.1) (if u then Some y else find (λ (q : NameRow). bytes_eq q.0 n) ys))
+      go true true e ih = both x.1 y.1 h.1
+      go false false e ih = ih
+      go true false e ih = absurd (cc (e))
+      go false true e ih = absurd (cc (e))

@@ -1,268 +1,303 @@
--- A call that frees a communicator.
-use Rattle.std.proofs.Common.{◌≡◌, ℕ, ◌+◌, ◌<◌, ◌==◌, ◌&&◌, not, nat_lt, nat_le, Bool, true, false, List, [], ◌∷◌, length, get_or, set, option_map, Option, Some, None, refl, sym, ap, ◌∙◌, subst, arith, length-set}
+-- The call of `free`, where it is not refused.
+use Rattle.std.proofs.Common.{◌≡◌, ◌≢◌, ◌⊎◌, ◌<◌, ◌≤◌, ℕ, ◌==◌, ◌||◌, nat_le, not, if◌then◌else◌, Bool, true, false, List, [], ◌∷◌, option_map, length, get_or, set, Option, Some, None, refl, sym, ap, ◌∙◌, subst, inl, inr, arith, length-set}
 use Rattle.std.specs.Option.{is_some, is_none}
-use Rattle.std.specs.List.{list_all}
+use Rattle.std.specs.List.{list_any}
 use Rattle.std.proofs.lemmas.Bool.Decides.{nat_tests}
-use Rattle.mpi_base.specs.MemberLists.{has_rank}
 use Rattle.mpi_base.specs.declared.keys.Key.{Key}
-use Rattle.mpi_base.specs.declared.keys.Kind.{Kind}
-use Rattle.mpi_base.specs.declared.keys.Kind.TheVariants as kind
+use Rattle.mpi_base.specs.MemberLists.{has_rank}
 use Rattle.mpi_base.specs.declared.ops.Op.{Op}
+use Rattle.local_law.specs.Names.{bound_of, unbind}
 use Rattle.local_law.specs.Objects as bound
 use Rattle.mpi_law.specs.declared.setting.Setting.{Setting}
-use Rattle.mpi_law.specs.Local.{is_alone_in, Bound, NameRow, Local, Frees as FreesIt}
-use Rattle.mpi_law.specs.ScriptLists.{is_built}
-use Rattle.mpi_law.specs.Registry.{Registry, Calls, Communicator, RankPart, ThreadPart, Outcome, Wait, Idle, Creating, Freeing, MayCall, LiveApart, blank_comm, idle_thread as idle_part, comm_of, with_freed, thread_of, part_of, effect_at, registry_next, after_effect}
-use Rattle.mpi_protocol.specs.declared.rows.CommRow.{CommRow}
-use Rattle.mpi_protocol.specs.declared.rows.CommStage.{CommStage}
-use Rattle.mpi_protocol.specs.declared.rows.CommStage.TheVariants.{Freed}
-use Rattle.mpi_protocol.specs.declared.rows.Outcome.TheVariants as ended
-use Rattle.mpi_protocol.specs.declared.rows.Stage.{Stage}
-use Rattle.mpi_protocol.specs.declared.rows.Stage.TheVariants.{Done}
+use Rattle.mpi_law.specs.declared.setting.TheConstants.{THREADS}
+use Rattle.mpi_law.specs.declared.effects.Effect.TheVariants.{Frees}
+use Rattle.mpi_law.specs.Local.Objects.{Bound, NameRow, Local, with_names}
+use Rattle.mpi_law.specs.Registry.State as reg
+use Rattle.mpi_law.specs.Registry.State.{Registry, RankPart, ThreadPart, Communicator, Creating, Outcome, Made, NoneFree, Wait, blank_part, blank_comm, part_of, session_at, with_call}
+use Rattle.mpi_law.specs.Registry.Creations.{outcome_for}
+use Rattle.mpi_law.specs.Registry.Contexts.{comm_of}
+use Rattle.mpi_law.specs.Registry.Calls.{effect_at, with_freed}
+use Rattle.mpi_law.specs.Registry.Events.{registry_next}
+use Rattle.agree_law.specs.declared.rows.Outcome.TheVariants as ended
+use Rattle.agree_law.specs.declared.rows.Stage.{Stage}
+use Rattle.agree_law.specs.declared.rows.Stage.TheVariants.{Sharing, Called, Waiting, Offered, Done}
+use Rattle.agree_law.specs.declared.rows.Verdict.{Verdict}
+use Rattle.agree_law.specs.declared.rows.Verdict.TheVariants.{Ready, Retry, Context, Exhausted}
+use Rattle.agree_law.specs.Part.{stage_of}
+use Rattle.comm_law.specs.declared.rows.CommRow.{CommRow}
+use Rattle.comm_law.specs.Comms.{Comms as Known, comm_at, mark_free, freed}
+use Rattle.mpi_protocol.specs.declared.rows.Waits.TheVariants.{Nothing, Creation as Creates, Freeing}
 use Rattle.mpi_protocol.specs.declared.rows.ThreadRow.{ThreadRow}
-use Rattle.mpi_protocol.specs.declared.rows.Waits.{Waits}
-use Rattle.mpi_protocol.specs.declared.rows.Waits.TheVariants.{Nothing, Creation as Creates, Freeing as Frees, Returned}
-use Rattle.mpi_protocol.specs.Rank.{Rank, stage_of, thread_at, idle_thread, waits_on, row_at, comm_at, with_stage, set_comm_stage}
-use Rattle.mpi_protocol.specs.Step.{is_left, has_none_open}
-use Rattle.mpi_protocol.specs.World.{rank_at}
-use Rattle.run_law.proofs.Lists.{tally, tally-set, one, All_map}
-use Rattle.run_law.proofs.Contexts.{comm_of_is, in_use_is, has_rank-append, stands_on, is_numbered, is_numbered_by}
-use Rattle.run_law.proofs.Apart.{event_apart}
-use Rattle.run_law.proofs.Bindings.{EffectNames}
-use Rattle.run_law.proofs.Names.{NamesFit-kept}
-use Rattle.run_law.proofs.Fits.{BoundFits, LocalFits, StageFits, is_comm, binds, Unbound, row_of, WaitFits, CommFits, RankFits, OfferFits, Waited, Whole, Joined}
-use Rattle.run_law.proofs.Grown.{Grows, StageFits-kept, CreationFits-moved, unbound_on, alone_at, joined_step, threads_after}
-use Rattle.run_law.proofs.Changes.{comm_of-freed, other_stays, this_changes, all_change, row_context, row_at-stage}
-use Rattle.run_law.proofs.Threads.{waits_still}
+use Rattle.mpi_protocol.specs.Rank.{Rank}
+use Rattle.mpi_protocol.specs.Calls.{called}
+use Rattle.run_law.proofs.Lists.{tally, one}
+use Rattle.run_law.proofs.Rows.{row_in}
+use Rattle.run_law.proofs.Contexts.{comm_of_is, has_rank-append}
+use Rattle.run_law.proofs.Dues.{Dues}
+use Rattle.run_law.proofs.Locals.{CommNamed, BoundFits, NamesFit, LocalFits, is_comm, binds}
+use Rattle.run_law.proofs.Threads.{row_of}
+use Rattle.run_law.proofs.Creations.{DueFits, StageFits, comm_in, creation_in}
+use Rattle.run_law.proofs.Comms.{KnownComm, CommFits, CommsFit, FreeFits, is_numbered}
+use Rattle.run_law.proofs.Joined.{rank_in, Joined}
+use Rattle.run_law.proofs.Agreed.{Untold, DueIsFree}
+use Rattle.run_law.proofs.Parts.{set_at, set_twice, thread_in, PartsAfter}
+use Rattle.run_law.proofs.OneRank.{rank_set}
+use Rattle.run_law.proofs.KnownHere.{Here, known_here as comm_known}
+use Rattle.run_law.proofs.Bindings.{bound_some, unbinds, other_unbind}
+use Rattle.run_law.proofs.OneThread.{thread_joined, waited, back}
+use Rattle.run_law.proofs.Joins.{calling_row}
+use Rattle.run_law.proofs.CallParts.{may_call, parts_call}
+use Rattle.run_law.proofs.CallSteps.{call_events, called_part, counted as called_more, plain, busy, without_name}
+use Rattle.run_law.proofs.DupSteps.{row_ctx}
+use Rattle.run_law.proofs.Freed.{Freed, kept, stands_same, stay, freed_else, known_freed, waits_freed}
+use Rattle.run_law.proofs.FreedRows.{freed_row, row_freed, serial_freed, serials_freed, mark_is, own_serial, freed_dead}
+use Rattle.run_law.proofs.FreedSteps.{freed_joined}
 use Rattle.run_law.proofs.SettleSteps.{Goes}
 
--- a stage says nothing of how many creations were called
-pub numbered_staged : (comms : List CommRow) (c : ℕ) (stage : CommStage) (key : Key) → is_numbered comms key ≡ true → is_numbered (set_comm_stage comms c stage) key ≡ true
-numbered_staged comms c stage key h = go key.kind refl
-  where
-    same : (o : Option CommRow) → row_at comms key.parent ≡ o → (comm_at (set_comm_stage comms c stage) key.parent).creations ≡ (comm_at comms key.parent).creations
-    same None e = rw (row_at-stage comms c stage key.parent, e) refl
-    same (Some m) e = rw (row_at-stage comms c stage key.parent, e) (grind (arith))
+module _ (s : Setting) (ranks : List Rank) (due : Dues) (g : Registry) (r t : ℕ) (j : Joined s ranks due g) (untold : Untold ranks due) (free_due : DueIsFree ranks due) (lt : r < s.ranks) (here : t < THREADS) (ew : (row_of (rank_in ranks r).threads t).waits ≡ Nothing) (op : Op)
+    (name : List ℕ) (c p session : ℕ) (h : CommNamed g.comms (rank_in ranks r).comms.rows r c session p session) (b : bound_of (rank_in ranks r).local.names name ≡ Some (bound.Comm c session)) where
+  abbrev x : Rank
+  x = rank_in ranks r
 
-    go : (k : Kind) → key.kind ≡ k → is_numbered_by (set_comm_stage comms c stage) key k ≡ true
-    go kind.From e = refl
-    go kind.Group e = refl
-    go kind.Dup e = rw (same (row_at comms key.parent) refl) (let z : is_numbered_by comms key kind.Dup ≡ true = rw e at h in z)
-    go kind.Split e = refl
-    go kind.Share e = refl
+  known_here : Here s ranks due g r c p
+  known_here = comm_known s ranks due g r j c session p session h
 
--- no name that is bound to another communicator is bound to this one
-none_bound : (names : List NameRow) (c : ℕ) → tally (binds c) names ≡ 0 → list_all (λ (q : NameRow). not (is_comm c q.1)) names ≡ true
-none_bound [] c z = refl
-none_bound (x ∷ xs) c z = go (is_comm c x.1) refl (none_bound xs c)
-  where
-    go : (b : Bool) → is_comm c x.1 ≡ b → (tally (binds c) xs ≡ 0 → list_all (λ (q : NameRow). not (is_comm c q.1)) xs ≡ true) → (not (is_comm c x.1) && list_all (λ (q : NameRow). not (is_comm c q.1)) xs) ≡ true
-    go true e ih = absurd (let o : one (is_comm c x.1) ≡ 1 = ap one e in omega (arith, o, z))
-    go false e ih = let o : one (is_comm c x.1) ≡ 0 = ap one e in let k = ih (omega (arith, o, z)) in grind (arith, e, k)
+  abbrev serial : ℕ
+  serial = (comm_at x.comms c).serial
 
-module _ (s : Setting) (w : List Rank) (g : Registry) (r t : ℕ) (op : Op) (j : Joined s w g) (lt : r < s.ranks) (t8 : t < 8) (waits : (thread_at (rank_at w r) t).waits ≡ Nothing) (part_waits : (thread_of g r t).wait ≡ Idle) (built : is_built s.ranks op ≡ true) (alone : is_alone_in (part_of g r).local op ≡ true)
-    (l m : Local) (c p : ℕ) (effect : effect_at s g r op ≡ FreesIt m p) (local : LocalFits g.comms r l m) (here : comm_of g.comms r c ≡ Some p) (used : has_rank (get_or g.comms p blank_comm).freed r ≡ false) (none : tally (binds c) l.names ≡ 0)
-    (names : EffectNames (rank_at w r).local.names (FreesIt l c)) where
-  made : Communicator
-  made = with_freed (get_or g.comms p blank_comm) r
+  row_is : comm_at x.comms c ≡ known_here.row
+  row_is = let e = known_here.is in rw e refl
 
-  row : ThreadRow
-  row = record { calls = (thread_at (rank_at w r) t).calls + 1; waits = Frees c }
+  there : p < length g.comms
+  there = (comm_of_is g.comms r c p h.stands).inside
 
-  thread : ThreadPart
-  thread = record { calls = (thread_of g r t).calls + 1; wait = Freeing p }
+  -- The thread begins to wait, and the name is unbound
 
-  part : RankPart
-  part = record { local = m; threads = set (part_of g r).threads t thread }
+  abbrev l : Local
+  l = with_names x.local (unbind x.local.names name)
 
-  new : Registry
-  new = record { comms = set g.comms p made; creations = g.creations; ranks = set g.ranks r part }
+  abbrev m : Local
+  m = with_names (part_of g r).local (unbind (part_of g r).local.names name)
 
-  y : Rank
-  y = record (rank_at w r) { comms = set_comm_stage (rank_at w r).comms c Freed; local = l; threads = set (rank_at w r).threads t row }
+  abbrev row : ThreadRow
+  row = calling_row x.threads t (Freeing serial)
 
-  inside : p < length g.comms
-  inside = (comm_of_is g.comms r c p here).inside
+  abbrev part : ThreadPart
+  part = called_part (get_or g.ranks r blank_part).threads t (reg.Freeing p)
 
-  context : (get_or g.comms p blank_comm).ctx ≡ c
-  context = (comm_of_is g.comms r c p here).context
+  abbrev new : List RankPart
+  new = set g.ranks r (with_call (part_of g r) t m (reg.Freeing p))
 
-  contexts : (q d : ℕ) → comm_of new.comms q d ≡ comm_of g.comms q d
-  unfolding new made
-  contexts q d = comm_of-freed g.comms p r q d
+  abbrev first : Rank
+  first = record x { local = l; threads = set x.threads t row }
 
-  this : get_or new.comms p blank_comm ≡ made
-  unfolding new
-  this = this_changes g.comms p made inside
-
-  others : (i : ℕ) → (i ≡ p → ⊥) → get_or new.comms i blank_comm ≡ get_or g.comms i blank_comm
-  unfolding new
-  others i ne = other_stays g.comms p i made ne
-
-  -- another context stands for another communicator
-  differs : (d i : ℕ) → comm_of g.comms r d ≡ Some i → (d ≡ c → ⊥) → i ≡ p → ⊥
-  differs d i e ne is =
-      let a = (comm_of_is g.comms r d i e).context in
-      let b = context in
-      ne (cc (a, b, is))
-
-  freed_more : (i : ℕ) → has_rank (get_or g.comms i blank_comm).freed r ≡ true → has_rank (get_or new.comms i blank_comm).freed r ≡ true
-  unfolding new made
-  freed_more i h =
-      all_change (λ (a b : Communicator). has_rank a.freed r ≡ true → has_rank b.freed r ≡ true) g.comms p made
-      (λ k. let e = has_rank-append (get_or g.comms p blank_comm).freed r r in grind (arith, e, k)) (λ z k. k) i h
-
-  freed_here : has_rank (get_or new.comms p blank_comm).freed r ≡ true
-  unfolding made
-  freed_here = let e = has_rank-append (get_or g.comms p blank_comm).freed r r in rw this (grind (arith, nat_tests, e))
-
-  returned_stays : (q i : ℕ) → has_rank (get_or g.comms i blank_comm).returned q ≡ true → has_rank (get_or new.comms i blank_comm).returned q ≡ true
-  unfolding new made
-  returned_stays q i h = all_change (λ (a b : Communicator). has_rank a.returned q ≡ true → has_rank b.returned q ≡ true) g.comms p made (λ k. k) (λ z k. k) i h
-
-  members_stay : (i : ℕ) → (get_or new.comms i blank_comm).members ≡ (get_or g.comms i blank_comm).members
-  unfolding new made
-  members_stay i = all_change (λ (a b : Communicator). b.members ≡ a.members) g.comms p made refl (λ z. refl) i
-
-  grows : Grows g new r
-  unfolding new
-  grows = record {
-    more_comms = omega (arith, length-set g.comms p made);
-    comms_stay = λ i li other. others i (λ is. other (ap (λ (k : ℕ). (get_or g.comms k blank_comm).members) is ∙ alone_at s g r c p (rank_at w r) (part_of g r) (j.fits r lt) here));
-    more_rows = omega arith;
-    rows_stay = λ n ln other. refl;
-    contexts_stay = λ q d ne. contexts q d;
-    returned_stay = returned_stays;
-    counts_stay = λ q i ne. refl;
-  }
-
-  -- names
-  bound_stays : (a b : Bound) → not (is_comm c a) ≡ true → BoundFits g.comms r a b → BoundFits new.comms r a b
-  bound_stays bound.Reserved bound.Reserved o k = tt
-  bound_stays (bound.Session a) (bound.Session b) o k = k
-  bound_stays (bound.Group ms a) (bound.Group ns b) o k = k
-  bound_stays (bound.Comm d a) (bound.Comm i b) o k =
-      let ne : d ≡ c → ⊥ = λ is. absurd (grind (arith, nat_tests, o, is)) in
-      (k.0, contexts r d ∙ k.1, ap (λ (z : Communicator). has_rank z.freed r) (others i (differs d i k.1 ne)) ∙ k.2)
-  bound_stays a b o k = absurd k
-
-  local_new : LocalFits new.comms r l m
-  local_new = record { live = local.live; opened = local.opened; names = NamesFit-kept g.comms new.comms r (λ a. not (is_comm c a)) l.names m.names bound_stays (none_bound l.names c none) local.names }
-
-  -- a creation that is decided has another context, since this one has a name
-  stage_stays : (group : List ℕ) (o : Option Stage) (out : Option Outcome) → Unbound (rank_at w r).local.names o → StageFits g.comms r group o out → StageFits new.comms r group o out
-  stage_stays group o out u h = StageFits-kept g.comms new.comms r group o out kept_comm h
+  awaits_back : FreeFits g.comms x.comms.rows x.comms.added r serial p
+  awaits_back =
+      let own = own_serial x.comms.rows c known_here.row known_here.is in
+      let few = (j.comms r).serials known_here.row.serial in
+      let live = (comm_of_is g.comms r c p h.stands).live in
+      let n : nat_le known_here.row.serial x.comms.added ≡ true = at (nat_le known_here.row.serial x.comms.added) refl few own.1 in
+      let kept_here : has_rank (comm_in g.comms p).returned r ≡ false = grind (arith, live) in
+      let is : serial ≡ known_here.row.serial = ap (λ (z : CommRow). z.serial) row_is in
+      record { inside = there; below = rw is (grind (arith, nat_tests, n)); gone = rw (is, kept_here) own.0 }
     where
-      kept_comm : (d i : ℕ) → o ≡ Some (Done (ended.Context d)) → comm_of g.comms r d ≡ Some i → has_rank (get_or g.comms i blank_comm).freed r ≡ false → (comm_of new.comms r d ≡ Some i) × (get_or new.comms i blank_comm ≡ get_or g.comms i blank_comm)
-      kept_comm d i e h0 unset =
-          let unbound : tally (binds d) (rank_at w r).local.names ≡ 0 = subst (λ (z : Option Stage). Unbound (rank_at w r).local.names z) e u in
-          let bound_here = names.frees in
-          let ne : d ≡ c → ⊥ = λ is. (let z : tally (binds c) (rank_at w r).local.names ≡ 0 = subst (λ (k : ℕ). tally (binds k) (rank_at w r).local.names ≡ 0) is unbound in omega (arith, z, bound_here)) in
-          (contexts r d ∙ h0, others i (differs d i h0 ne))
+      at : (v : Bool) → nat_le known_here.row.serial x.comms.added ≡ v → tally (is_numbered known_here.row.serial) x.comms.rows ≤ one (nat_le known_here.row.serial x.comms.added) → 1 ≤ tally (is_numbered known_here.row.serial) x.comms.rows → nat_le known_here.row.serial x.comms.added ≡ true
+      at true e few own = e
+      at false e few own = absurd (let o : one (nat_le known_here.row.serial x.comms.added) ≡ 0 = ap one e in omega (arith, few, own, o))
 
-  waits_after : (a : Waits) (b : Wait) → WaitFits g r (rank_at w r) a b → WaitFits new r y a b
-  unfolding new y
-  waits_after Nothing Idle f = tt
-  waits_after (Creates k to from) (Creating n) f =
-      CreationFits-moved g new r (rank_at w r) y k to from n (omega arith) refl (stands_on g.comms new.comms r k (row_of g n).name (λ d i e. contexts r d ∙ e) f.is) (numbered_staged (rank_at w r).comms c Freed k f.numbered)
-      (unbound_on (rank_at w r).local.names l.names names.unbound (stage_of (rank_at w r).opened k) f.unbound) (stage_stays (row_of g n).group (stage_of (rank_at w r).opened k) (row_of g n).outcome f.unbound f.stage) f
-  waits_after (Frees d) (Freeing i) f = (contexts r d ∙ f.0, freed_more i f.1)
-  waits_after Returned (Freeing i) f = returned_stays r i f
-  waits_after a b f = absurd f
+  waits_first : (i q : ℕ) → row.waits ≡ Freeing i → part.wait ≡ reg.Freeing q → FreeFits g.comms x.comms.rows x.comms.added r i q
+  waits_first i q e k = let a : serial ≡ i = cc (e) in let d : p ≡ q = cc (k) in subst (λ (z : ℕ). FreeFits g.comms x.comms.rows x.comms.added r z q) a (subst (λ (z : ℕ). FreeFits g.comms x.comms.rows x.comms.added r serial z) d awaits_back)
 
-  -- communicators
-  known : (d : ℕ) (o : Option CommRow) → row_at (rank_at w r).comms d ≡ o → (z : Option ℕ) → comm_of g.comms r d ≡ z → CommFits g r o z → CommFits new r (option_map (with_stage c Freed) o) z
-  unfolding new
-  known d None e None q k = tt
-  known d None e (Some i) q k = absurd k
-  known d (Some v) e None q k = absurd k
-  known d (Some v) e (Some i) q k = by (v.ctx == c) refl (i == p) refl
+  parts : PartsAfter g.ranks new r t m part
+  parts = parts_call s ranks due g r t j lt here ew m (reg.Freeing p)
+
+  abbrev first_joined : Joined s (set ranks r first) due (record g { ranks = new })
+  first_joined =
+      thread_joined s ranks due g r t row part l m new (called_more s ranks due g r t j untold lt here ew op) tt refl j lt here (plain s ranks due g r t j untold lt here ew op) (busy s ranks due g r t j untold lt here ew op) parts (without_name s ranks due g r t j untold lt here ew op name)
+      (λ d z. other_unbind x.local.names name d z) waits_first
+
+  inside : r < length ranks
+  inside = let e = j.sizes.ranks_are in omega (arith, e, lt)
+
+  first_is : rank_in (set ranks r first) r ≡ first
+  first_is = go (rank_set ranks r first r inside)
     where
-      by : (b : Bool) → (v.ctx == c) ≡ b → (u : Bool) → (i == p) ≡ u → CommFits new r (Some (with_stage c Freed v)) (Some i)
-      by b t true u =
-          let is : i ≡ p = grind (arith, nat_tests, u) in
-          let freed : has_rank (get_or new.comms i blank_comm).freed r ≡ true = rw is freed_here in
-          let same : c ≡ d = (let a = (comm_of_is g.comms r d i q).context in let b = context in cc (a, b, is)) in
-          let at : v.ctx ≡ c = row_context (rank_at w r).comms d v e ∙ sym same in
-          let staged : with_stage c Freed v ≡ record { ctx = v.ctx; members = v.members; session = v.session; creations = v.creations; stage = Freed } = grind (arith, nat_tests, at) in
-          rw staged (k.0 ∙ sym (members_stay i), k.1, k.2, (rw freed refl))
-      by b t false u =
-          let ne : i ≡ p → ⊥ = λ is. absurd (grind (arith, nat_tests, u, is)) in
-          let apart : (v.ctx == c) ≡ false = not_here b t ne in
-          let staged : with_stage c Freed v ≡ v = rw apart refl in
-          let same = others i ne in
-          rw staged (k.0 ∙ sym (members_stay i), k.1, k.2, k.3 ∙ ap (λ (z : Communicator). not (has_rank z.freed r)) (sym same))
-        where
-          not_here : (b : Bool) → (v.ctx == c) ≡ b → (i ≡ p → ⊥) → (v.ctx == c) ≡ false
-          not_here false t ne = t
-          not_here true t ne =
-              let at : v.ctx ≡ c = grind (arith, nat_tests, t) in
-              let dc : d ≡ c = sym (row_context (rank_at w r).comms d v e) ∙ at in
-              let q' : comm_of g.comms r c ≡ Some i = subst (λ (z : ℕ). comm_of g.comms r z ≡ Some i) dc q in
-              absurd (ne (cc (q', here)))
+      go : ((r ≡ r) × (rank_in (set ranks r first) r ≡ first)) ⊎ ((r ≢ r) × (rank_in (set ranks r first) r ≡ rank_in ranks r)) → rank_in (set ranks r first) r ≡ first
+      go (inl a) = a.1
+      go (inr a) = absurd (a.0 refl)
 
-  left_stays : (d : ℕ) (v : CommRow) → row_at (set_comm_stage (rank_at w r).comms c Freed) d ≡ Some v → is_left v.stage ≡ true → has_none_open (rank_at w r).opened d ≡ true
-  left_stays d v e le = go (row_at (rank_at w r).comms d) refl (sym (row_at-stage (rank_at w r).comms c Freed d) ∙ e)
+  -- Then the communicator is freed
+
+  abbrev cs : List Communicator
+  cs = set g.comms p (with_freed r (comm_in g.comms p))
+
+  abbrev hit : ℕ → Bool
+  hit q = q == p
+
+  freed_here : Freed g.comms cs r hit
+  freed_here = record { long = length-set g.comms p (with_freed r (comm_in g.comms p)); row = λ q. go q (set_at g.comms p (with_freed r (comm_in g.comms p)) blank_comm q there) (q == p) refl }
     where
-      by : (u : CommRow) (b : Bool) → (u.ctx == c) ≡ b → is_left (with_stage c Freed u).stage ≡ true → is_left u.stage ≡ true
-      by u b t h = grind (arith, t, h)
+      go : (q : ℕ) → ((q ≡ p) × (comm_in cs q ≡ with_freed r (comm_in g.comms p))) ⊎ ((q ≢ p) × (comm_in cs q ≡ comm_in g.comms q)) → (v : Bool) → (q == p) ≡ v → comm_in cs q ≡ (if v then with_freed r (comm_in g.comms q) else comm_in g.comms q)
+      go q (inl a) true e = a.1 ∙ ap (λ (i : ℕ). with_freed r (comm_in g.comms i)) (sym a.0)
+      go q (inl a) false e = absurd (let z = a.0 in grind (arith, nat_tests, z, e))
+      go q (inr a) true e = absurd (a.0 (grind (arith, nat_tests, e)))
+      go q (inr a) false e = a.1
 
-      go : (o : Option CommRow) → row_at (rank_at w r).comms d ≡ o → option_map (with_stage c Freed) o ≡ Some v → has_none_open (rank_at w r).opened d ≡ true
-      go None q h = absurd (cc (h))
-      go (Some u) q h =
-          let is : with_stage c Freed u ≡ v = cc (h) in
-          (j.fits r lt).left d u q (by u (u.ctx == c) refl (subst (λ (z : CommRow). is_left z.stage ≡ true) (sym is) le))
+  abbrev known : Known
+  known = mark_free x.comms c
 
-  kept : RankFits s new r y part
-  unfolding new y part thread row
-  kept =
-      let f = j.fits r lt in
+  rows_are : (d : ℕ) → row_in known.rows d ≡ option_map (freed_row (λ z. z.ctx == c)) (row_in x.comms.rows d)
+  rows_are d = ap (λ (ms : List CommRow). row_in ms d) (mark_is x.comms c) ∙ row_freed x.comms.rows (λ z. z.ctx == c) d
+
+  same : (d : ℕ) → is_some (row_in known.rows d) ≡ is_some (row_in x.comms.rows d)
+  same d = rw (rows_are d) (go (row_in x.comms.rows d))
+    where
+      go : (o : Option CommRow) → is_some (option_map (freed_row (λ z. z.ctx == c)) o) ≡ is_some o
+      go None = refl
+      go (Some z) = refl
+
+  -- a context that stands for it is this one
+  one_context : (d q : ℕ) → comm_of g.comms r d ≡ Some q → (q == p) ≡ (d == c)
+  one_context d q e = at (q == p) refl (d == c) refl
+    where
+      at : (u : Bool) → (q == p) ≡ u → (v : Bool) → (d == c) ≡ v → (q == p) ≡ (d == c)
+      at true f true k = f ∙ sym k
+      at false f false k = f ∙ sym k
+      at true f false k =
+          let is : q ≡ p = grind (arith, nat_tests, f) in
+          let one_ctx = (comm_of_is g.comms r d q e).context in
+          let two_ctx = (comm_of_is g.comms r c p h.stands).context in
+          let z : d ≡ c = sym one_ctx ∙ (ap (λ (i : ℕ). (comm_in g.comms i).ctx) is ∙ two_ctx) in
+          absurd (grind (arith, nat_tests, z, k))
+      at false f true k =
+          let is : d ≡ c = grind (arith, nat_tests, k) in
+          let a : comm_of g.comms r c ≡ Some q = subst (λ (i : ℕ). comm_of g.comms r i ≡ Some q) is e in
+          let st = h.stands in
+          let z : q ≡ p = cc (a, st) in
+          absurd (grind (arith, nat_tests, z, f))
+
+  -- no name is bound to it any more
+  nameless : tally (binds c) l.names ≡ 0
+  nameless = unbinds x.local.names name c session b ((j.locals r).comms_once c)
+
+  name_freed : (a d : Bound) → is_comm c a ≡ false → BoundFits g.comms x.comms.rows r a d → BoundFits cs known.rows r a d
+  name_freed bound.Reserved bound.Reserved ne k = tt
+  name_freed (bound.Session u) (bound.Session v) ne k = k
+  name_freed (bound.Group ms u) (bound.Group ns v) ne k = k
+  name_freed (bound.Comm e u) (bound.Comm q v) ne k =
       record {
-        rank = f.rank;
-        setting = f.setting;
-        local = local_new;
-        long = length-set (rank_at w r).threads t row ∙ f.long;
-        long_part = length-set (part_of g r).threads t thread ∙ f.long_part;
-        calls = threads_after (λ u a b. b.calls ≡ a.calls) (rank_at w r).threads (part_of g r).threads t row thread f.long f.long_part t8 (ap (λ (n : ℕ). n + 1) (f.calls t)) (λ u ne. f.calls u);
-        waits = threads_after (λ u a b. WaitFits new r y a.waits b.wait) (rank_at w r).threads (part_of g r).threads t row thread f.long f.long_part t8 (contexts r c ∙ here, freed_here) (λ u ne. waits_after (thread_at (rank_at w r) u).waits (get_or (part_of g r).threads u idle_part).wait (f.waits u));
-        waiter = λ k. (
-            let ts = tally-set (λ (z : ThreadRow). waits_on k z.waits) (rank_at w r).threads t row idle_thread (let n = f.long in omega (arith, n, t8)) in
-            let was : one (waits_on k (thread_at (rank_at w r) t).waits) ≡ 0 = ap (λ (a : Waits). one (waits_on k a)) waits in
-            let old = f.waiter k in
-            omega (arith, ts, was, old)
-            );
-        rounds = f.rounds;
-        offers = All_map (OfferFits (rank_at w r)) (OfferFits y) (rank_at w r).gathered (λ o q. record { stage = q.stage; owner = q.owner; mask = q.mask }) f.offers;
-        held = f.held;
-        owner = f.owner;
-        names = names.apart;
-        comms = λ d. rw (row_at-stage (rank_at w r).comms c Freed d, contexts r d) (known d (row_at (rank_at w r).comms d) refl (comm_of g.comms r d) refl (f.comms d));
-        left = left_stays;
-        range = λ d e. f.range d (subst (λ (o : Option ℕ). is_some o ≡ true) (contexts r d) e);
-        wide = f.wide;
-        mask = λ d. f.mask d ∙ ap (λ (u : Bool). nat_lt 0 d && (nat_le d s.contexts && not u)) (sym (in_use_is new.comms r d ∙ (ap is_some (contexts r d) ∙ sym (in_use_is g.comms r d))));
+        session = k.session;
+        stands = stay g.comms cs r hit freed_here r e q k.stands;
+        kept = freed_else g.comms cs r hit freed_here q r (λ z w. (let o = one_context e q k.stands in let y : false ≡ true = sym ne ∙ (sym o ∙ z) in cc (y))) ∙ k.kept;
+        known = same e ∙ k.known;
+        of_session = kept g.comms cs r hit freed_here (λ d ms ss back. session_at (record { ctx = d; members = ms; sessions = ss; freed = []; returned = back }) r) q ∙ k.of_session;
       }
+  name_freed (bound.Request u) (bound.Request v) ne k = k
+  name_freed a d ne k = absurd k
 
-  waited_after : (n : ℕ) → n < length new.creations → is_none (row_of new n).outcome ≡ true → Waited s new n
-  unfolding new part thread
-  waited_after n ln open_row = let k = j.parts in waits_still s g new r t n part thread refl (omega (arith, k, lt)) refl (λ e. cc (e, part_waits)) (j.whole.waited n ln open_row)
+  names_freed : (a d : List NameRow) → tally (binds c) a ≡ 0 → NamesFit g.comms x.comms.rows r a d → NamesFit cs known.rows r a d
+  names_freed [] [] z k = tt
+  names_freed [] (d ∷ ds) z k = absurd k
+  names_freed (a ∷ as') [] z k = absurd k
+  names_freed (a ∷ as') (d ∷ ds) z k = (k.0, name_freed a.1 d.1 (no_one (is_comm c a.1) (omega (arith, z))) k.1, names_freed as' ds (omega (arith, z)) k.2)
+    where
+      no_one : (v : Bool) → one v ≡ 0 → v ≡ false
+      no_one true e = absurd (omega (arith, e))
+      no_one false e = refl
 
-  whole : LiveApart new → Whole s new
-  unfolding new
-  whole live = record {
-    waited = waited_after;
-    placed = λ i q le. (let n = length-set g.comms p made in j.whole.placed i q (omega (arith, n, le)));
-    apart = live;
-    owned = λ i li. (let n = length-set g.comms p made in let o = j.whole.owned i (omega (arith, n, li)) in record { rank = o.rank; rank_in = o.rank_in; alone = members_stay i ∙ o.alone });
-    made_inside = λ n i e. (let k = length-set g.comms p made in let z = j.whole.made_inside n i e in omega (arith, k, z));
-    made_once = j.whole.made_once;
-  }
+  local_here : LocalFits cs known.rows r l (part_of (record g { ranks = new }) r).local
+  local_here =
+      let f = without_name s ranks due g r t j untold lt here ew op name in
+      subst (λ (z : Local). LocalFits cs known.rows r l z) (sym parts.local) (record { live = f.live; opened = f.opened; names = names_freed l.names m.names nameless f.names; each = f.each; comms_once = f.comms_once })
 
-  pub free_goes : Goes s g (Calls r t op false ∷ []) (set w r (record (rank_at w r) { comms = set_comm_stage (rank_at w r).comms c Freed; local = l; threads = set (rank_at w r).threads t (record { calls = (thread_at (rank_at w r) t).calls + 1; waits = Frees c }) }))
-  unfolding registry_next new y part thread row made
-  free_goes =
-      let may : MayCall s g r t op false = record { rank = lt; thread = t8; built = built; alone = alone; idle = rw part_waits refl; reply = rw effect refl } in
-      let after : after_effect g r t (effect_at s g r op) ≡ new = rw effect refl in
-      let live : LiveApart new = subst (λ (h : Registry). LiveApart h) after (event_apart s g (Calls r t op false) may j.whole.apart) in
-      let done : Joined s (set w r y) new = joined_step s w g new r y part j lt refl grows kept (whole live) in
-      ((may, tt), subst (λ (h : Registry). Joined s (set w r y) h) (sym after) done)
+  -- no creation of the rank has made it
+  unmade : (u : ℕ) (k : Key) (to : List ℕ) (from i q : ℕ) → (row_of first.threads u).waits ≡ Creates k to from → (thread_in new r u).wait ≡ Creating i → outcome_for (creation_in g.creations i) r ≡ Some (Made q) → hit q ≡ true → ⊥
+  unmade u k to from i q fw fp e hits =
+      let w = back s ranks due g r t row part l m new (called_more s ranks due g r t j untold lt here ew op) tt refl j lt here (plain s ranks due g r t j untold lt here ew op) (busy s ranks due g r t j untold lt here ew op) parts (without_name s ranks due g r t j untold lt here ew op name) (λ d z. other_unbind x.local.names name d z) waits_first (Creates k to from) refl u fw in
+      let o = waited s ranks due g r t row part l m new (called_more s ranks due g r t j untold lt here ew op) tt refl j lt here (plain s ranks due g r t j untold lt here ew op) (busy s ranks due g r t j untold lt here ew op) parts (without_name s ranks due g r t j untold lt here ew op name) (λ d z. other_unbind x.local.names name d z) waits_first r u i fp in
+      let f = j.creations.each r u k to from i w o in
+      staged (due r k) refl (stage_of x.agree.opened k) (subst (λ (z : Option Outcome). StageFits g.comms x.comms.rows x.local.names r k from (due r k) (stage_of x.agree.opened k) z) e f.far)
+    where
+      of_due : (v : Option Verdict) → due r k ≡ v → DueFits g.comms r k from v (Some (Made q)) → ⊥
+      of_due None d z = z
+      of_due (Some Ready) d z = z
+      of_due (Some Retry) d z = z
+      of_due (Some Exhausted) d z = z
+      of_due (Some (Context a)) d z =
+          let bit = free_due r k a d in
+          let mask = (j.masks r lt).bits a in
+          let is : (a == c) ≡ true = sym (one_context a q z.stands) ∙ hits in
+          let same_ctx : a ≡ c = grind (arith, nat_tests, is) in
+          let known_row : is_some (row_in x.comms.rows a) ≡ true = rw same_ctx h.known in
+          let none : is_none (row_in x.comms.rows a) ≡ true = grind (arith, bit, mask) in
+          cc_none (row_in x.comms.rows a) known_row none
+        where
+          cc_none : (o : Option CommRow) → is_some o ≡ true → is_none o ≡ true → ⊥
+          cc_none None y n = cc (y)
+          cc_none (Some z) y n = cc (n)
+
+      staged : (v : Option Verdict) → due r k ≡ v → (st : Option Stage) → StageFits g.comms x.comms.rows x.local.names r k from v st (Some (Made q)) → ⊥
+      staged v d None z = z
+      staged v d (Some (Sharing a)) z = let n = z.1 in cc (n)
+      staged v d (Some Called) z = let n = z.1 in cc (n)
+      staged v d (Some (Waiting a)) z = let n = z.1 in cc (n)
+      staged v d (Some (Offered a own)) z = of_due v d z
+      staged v d (Some (Done ended.Exhausted)) z = z.1
+      staged v d (Some (Done (ended.Context a))) z =
+          let is : (a == c) ≡ true = sym (one_context a q z.1.0.stands) ∙ hits in
+          let same_ctx : a ≡ c = grind (arith, nat_tests, is) in
+          let none : tally (binds c) x.local.names ≡ 0 = subst (λ (i : ℕ). tally (binds i) x.local.names ≡ 0) same_ctx z.1.1 in
+          let some = bound_some x.local.names name c session b in
+          absurd (omega (arith, none, some))
+
+  -- what the rank knows
+  comms_here : CommsFit s.contexts cs g.creations (get_or new r blank_part).threads r known.rows known.added x.agree.owner (due r) first.threads
+  unfolding freed_row
+  comms_here =
+      record {
+        each = λ d. rw (stands_same g.comms cs r hit freed_here r d, rows_are d) (each d (row_in x.comms.rows d) refl (comm_of g.comms r d) refl (old.each d));
+        range = λ d e. old.range d (ap is_some (sym (stands_same g.comms cs r hit freed_here r d)) ∙ e);
+        freeing = λ u i q fw fp. (let k = waits_freed g.comms cs r hit freed_here x.comms.rows x.comms.added r i q (old.freeing u i q fw fp) in record { inside = k.inside; below = k.below; gone = ap (λ (ms : List CommRow). list_any (λ (y : CommRow). y.serial == i) ms) (mark_is x.comms c) ∙ (serial_freed x.comms.rows (λ z. z.ctx == c) i ∙ k.gone) });
+        serials = λ n. (let a = serials_freed x.comms.rows (λ z. z.ctx == c) n in let o = old.serials n in let e = ap (λ (ms : List CommRow). tally (is_numbered n) ms) (mark_is x.comms c) in omega (arith, a, o, e));
+      }
+    where
+      old : CommsFit s.contexts g.comms g.creations (get_or new r blank_part).threads r x.comms.rows x.comms.added x.agree.owner (due r) first.threads
+      old = subst (λ (z : Rank). CommsFit s.contexts g.comms g.creations (get_or new r blank_part).threads r z.comms.rows z.comms.added z.agree.owner (due r) z.threads) first_is (first_joined.comms r)
+
+      at_row : (d q : ℕ) (y : CommRow) → y.ctx ≡ d → comm_of g.comms r d ≡ Some q → KnownComm g.comms g.creations r y q → KnownComm cs g.creations r (freed_row (λ z. z.ctx == c) y) q
+      at_row d q y ctx e k = go (y.ctx == c) refl
+        where
+          go : (v : Bool) → (y.ctx == c) ≡ v → KnownComm cs g.creations r (if v then freed y else y) q
+          go false f =
+              let ne : (q == p) ≡ false = one_context d q e ∙ (rw (← ctx) f) in
+              known_freed g.comms cs r hit freed_here g.creations r y q (λ z w. cc (z, ne)) k
+          go true f =
+              let on : (q == p) ≡ true = one_context d q e ∙ (rw (← ctx) f) in
+              let self : (r == r) ≡ true = grind (arith, nat_tests) in
+              let row_q : comm_in cs q ≡ with_freed r (comm_in g.comms q) = freed_here.row q ∙ (rw on refl) in
+              let has : has_rank (comm_in cs q).freed r ≡ true = ap (λ (z : Communicator). has_rank z.freed r) row_q ∙ (has_rank-append (comm_in g.comms q).freed r r ∙ (rw self (last (has_rank (comm_in g.comms q).freed r)))) in
+              record {
+                members = k.members ∙ sym (kept g.comms cs r hit freed_here (λ a ms ss back. ms) q);
+                session = k.session ∙ sym (kept g.comms cs r hit freed_here (λ a ms ss back. session_at (record { ctx = a; members = ms; sessions = ss; freed = []; returned = back }) r) q);
+                calls = k.calls;
+                stage = freed_dead y.stage ∙ ap not (sym has);
+              }
+            where
+              last : (v : Bool) → (v || true) ≡ true
+              last true = refl
+              last false = refl
+
+      each : (d : ℕ) (o : Option CommRow) → row_in x.comms.rows d ≡ o → (q : Option ℕ) → comm_of g.comms r d ≡ q → CommFits g.comms g.creations r x.agree.owner (due r) d o q → CommFits cs g.creations r x.agree.owner (due r) d (option_map (freed_row (λ z. z.ctx == c)) o) q
+      each d None eo None eq k = tt
+      each d (Some y) eo None eq k = k
+      each d None eo (Some q) eq k = k
+      each d (Some y) eo (Some q) eq k = at_row d q y (row_ctx x.comms.rows d y eo) eq k
+
+  pub frees_goes : effect_at s g r op ≡ Frees name p → Goes s g (call_events r t op (called x t (Frees name c))) (set ranks r (called x t (Frees name c)).state) due
+  unfolding registry_next
+  frees_goes is =
+      rw is (
+        (may_call s ranks due g r t j lt here ew op (Frees name p) false is refl, tt),
+        subst (λ (rs : List Rank). Joined s rs due (record g { comms = cs; ranks = new })) (set_twice ranks r first (record first { comms = known }))
+            (freed_joined s (set ranks r first) due (record g { ranks = new }) r cs hit freed_here first known first_joined lt first_is same local_here unmade comms_here),
+      )

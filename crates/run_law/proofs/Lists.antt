@@ -1,5 +1,5 @@
 -- Lists in which one place changes, and how many items pass a test.
-use Rattle.std.proofs.Common.{◌≡◌, ◌≢◌, ◌⊎◌, ℕ, zero, suc, ◌+◌, ◌<◌, ◌≤◌, ◌==◌, nat_lt, Bool, true, false, List, [], ◌∷◌, ◌++◌, length, get_or, set, refl, subst, inl, inr, arith, length-append}
+use Rattle.std.proofs.Common.{◌≡◌, ◌≢◌, ◌⊎◌, ℕ, zero, suc, ◌+◌, ◌<◌, ◌≤◌, ◌==◌, nat_lt, Bool, true, false, List, [], ◌∷◌, ◌++◌, length, get_or, set, refl, subst, inl, inr, arith, length-append, map}
 use Rattle.std.proofs.lemmas.Bool.Decides.{nat_tests}
 use Rattle.std.specs.List.{list_any, list_all, range_with_len, AllByRecursion}
 
@@ -61,7 +61,7 @@ tally_has p (x ∷ xs) d h = go (p x) refl (tally_has p xs d)
         let l = r.inside in
         record { place = suc r.place; inside = omega arith; passes = r.passes }
 
-tally_some : {A : Type 0} (p : A → Bool) (xs : List A) (d : A) (i : ℕ) → i < length xs → p (get_or xs i d) ≡ true → 0 < tally p xs
+pub tally_some : {A : Type 0} (p : A → Bool) (xs : List A) (d : A) (i : ℕ) → i < length xs → p (get_or xs i d) ≡ true → 0 < tally p xs
 tally_some p [] d i lt h = absurd (omega arith)
 tally_some p (x ∷ xs) d zero lt h = grind (arith, h)
 tally_some p (x ∷ xs) d (suc i) lt h = let ih = tally_some p xs d i (omega arith) h in omega arith
@@ -109,3 +109,12 @@ all_range_at p a (suc n) i h lo hi = go (a == i) refl (all_range_at p (suc a) n 
     go : (b : Bool) → (a == i) ≡ b → (list_all p (range_with_len (suc a) n) ≡ true → suc a ≤ i → i < suc a + n → p i ≡ true) → p i ≡ true
     go true e ih = let is : a ≡ i = grind (arith, nat_tests, e) in subst (λ (j : ℕ). p j ≡ true) is (grind (arith, h))
     go false e ih = let ne : a ≢ i = grind (arith, nat_tests, e) in ih (grind (arith, h)) (omega arith) (omega arith)
+
+pub get_or-map : {A B : Type 0} (f : A → B) (xs : List A) (d : A) (i : ℕ) → get_or (map f xs) i (f d) ≡ f (get_or xs i d)
+get_or-map f [] d i = refl
+get_or-map f (x ∷ xs) d zero = refl
+get_or-map f (x ∷ xs) d (suc i) = get_or-map f xs d i
+
+pub length-map : {A B : Type 0} (f : A → B) (xs : List A) → length (map f xs) ≡ length xs
+length-map f [] = refl
+length-map f (x ∷ xs) = let ih = length-map f xs in omega (arith, ih)

@@ -1,8 +1,8 @@
 use Rattle.std.proofs.Common.{◌≡◌, ◌++◌, ◌∷◌, List, [], sym, subst, ap, ◌∙◌}
 use Rattle.mpi_base.specs.declared.entries.Entry.{Entry}
 use Rattle.mpi_law.specs.declared.setting.Setting.{Setting}
-use Rattle.mpi_protocol.specs.Rank.{Rank, fresh}
-use Rattle.mpi_protocol.specs.Step.{Steps}
+use Rattle.solo_protocol.specs.Rank.{Rank, fresh}
+use Rattle.solo_protocol.specs.Step.{Steps}
 use Rattle.mpisess.proofs.Draining.{Draining, draining_first, draining_on, falls, few_steps, calls_alone, of_one_rank}
 use Rattle.mpisess.proofs.run.drain.Goals as goal
 

@@ -1,5 +1,5 @@
 use Rattle.mpi_law.specs.ScriptLists.{script_of}
-use Rattle.run_law.specs.Solo.{steps_left}
+use Rattle.solo_law.specs.Solo.{steps_left}
 use Rattle.mpisess.proofs.Draining.{Draining}
 use Rattle.mpisess.proofs.run.drain.Given as goal
 

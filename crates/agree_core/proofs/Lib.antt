@@ -1,0 +1,3 @@
+pub mod MoveFacts
+pub mod ClassFacts
+pub mod ShareMoves

@@ -1,0 +1,13 @@
+pub mod Tree
+pub mod Part
+pub mod Packets
+pub mod Kinds
+pub mod Rule
+pub mod Gather
+pub mod Offers
+pub mod Verdicts
+pub mod Classes
+pub mod Shares
+pub mod Moves
+pub mod World
+pub mod Facts

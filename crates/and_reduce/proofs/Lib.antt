@@ -1,0 +1,4 @@
+pub mod TreeFacts
+pub mod FrontFacts
+pub mod RowFacts
+pub mod ShareFacts

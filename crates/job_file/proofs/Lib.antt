@@ -1,0 +1,8 @@
+mod Cuts
+mod Places
+mod SetFacts
+mod Spelled
+mod Faultless
+mod Added
+mod Unbuilt
+mod Laws

@@ -1,0 +1,9 @@
+use Rattle.std.proofs.Common.{◌≡◌}
+use Rattle.toml.specs.View.{members_view}
+use Rattle.job_file.specs.Keys.{first_failing, is_top_key}
+use Rattle.job_file.proofs.top.first_unknown.Given as goal
+
+abbrev pub invariant-members : goal.invariant-members
+invariant-members l =
+    (goal.iterator-members).can_next l.key-iterator × (goal.iterator-members).is_finite l.key-iterator
+    × (first_failing (λ k d. is_top_key k) (members_view l.key-iterator) ≡ first_failing (λ k d. is_top_key k) (members_view l.table.entries))

@@ -1,0 +1,9 @@
+pub mod Lines
+pub mod Keys
+pub mod Chains
+pub mod Top
+pub mod ConfiguredSets
+pub mod Threads
+pub mod Adding
+pub mod Jobs
+pub mod Solo

@@ -1,0 +1,4 @@
+mod Examples
+pub mod NetFacts
+mod QueueFacts
+pub mod SeenFacts

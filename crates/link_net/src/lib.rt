@@ -1,0 +1,8 @@
+//! The links between ranks. Each link is a queue, from one rank to another.
+#![tactic(auto)]
+
+mod links;
+#[cfg(test)]
+mod tests;
+
+pub use links::Links;

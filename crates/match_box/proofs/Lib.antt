@@ -1,0 +1,9 @@
+pub mod BoxFacts
+pub mod Contexts
+pub mod FilingFacts
+pub mod NodeFacts
+pub mod QueueFacts
+pub mod Rooms
+pub mod Scans
+pub mod Spots
+pub mod Steps

@@ -1,0 +1,5 @@
+pub mod Boxes
+pub mod Filing
+pub mod Nodes
+pub mod Rows
+pub mod Tallies

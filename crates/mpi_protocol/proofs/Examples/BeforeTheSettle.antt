@@ -1,0 +1,78 @@
+-- All have called, and no packet is delivered yet: what may be done, and what not.
+use Rattle.std.proofs.Common.{◌≡◌, true, false, List, [], ◌∷◌, map, Some, None, codes, refl}
+use Rattle.mpi_base.specs.declared.keys.Key.{Key}
+use Rattle.mpi_base.specs.declared.keys.Kind.TheVariants as kind
+use Rattle.mpi_base.specs.declared.ops.Op.TheVariants as op
+use Rattle.mpi_base.specs.declared.replies.Reply.TheVariants as reply
+use Rattle.mpi_base.specs.declared.entries.Act.TheVariants as act
+use Rattle.mpi_base.specs.declared.entries.Choice.{Choice}
+use Rattle.mpi_base.specs.declared.entries.Entry.{Entry}
+use Rattle.mpi_base.specs.Keys.{same_key, key_cmp, key_before}
+use Rattle.mpi_group.specs.Algebra.{count_of, step_of, expanded}
+use Rattle.agree_law.specs.Tree.{parent_of, children_of}
+use Rattle.agree_law.specs.Rule.{may_own, is_least}
+use Rattle.agree_law.specs.Gather.{is_ready, all_own, least_common}
+use Rattle.agree_law.specs.Offers.{up_from, put_offer, begin, make_offer, takes_up, take_up}
+use Rattle.agree_law.specs.Verdicts.{takes, rounds_after, pass_down, decide, settle_offers, takes_down, take_down}
+use Rattle.agree_law.specs.Classes.{class_of}
+use Rattle.agree_law.specs.Shares.{share_list, begin_share, takes_share, take_share, divide, takes_shares, take_shares, settle_share}
+use Rattle.agree_law.specs.Moves.{may_settle, settle, give_back, close, takes_packet, deliver}
+use Rattle.match_law.specs.Box.{arrive, post}
+use Rattle.comm_law.specs.Comms.{all_marked}
+use Rattle.mpi_law.specs.declared.setting.Setting.{Setting}
+use Rattle.mpi_law.specs.Local.{call_of}
+use Rattle.mpi_protocol.specs.Rank.{has_open_under}
+use Rattle.mpi_protocol.specs.Calls.{calls}
+use Rattle.mpi_protocol.specs.Agreeing.{offers, settles}
+use Rattle.mpi_protocol.specs.Delivers.{takes_packet as box_takes, delivers}
+use Rattle.mpi_protocol.specs.Step.{is_enabled, step, leaves, gives_back}
+use Rattle.mpi_protocol.specs.World.{World, opening, may_happen}
+use Rattle.mpi_protocol.proofs.Lines as line
+use Rattle.mpi_protocol.proofs.Lines.{all_enabled, entries, after}
+
+abbrev setting : Setting
+setting = record { ranks = 2; contexts = 63; psets = record { ranks = 2; sets = (record { name = (codes "mpi://WORLD"); members = (0 ∷ 1 ∷ []) } ∷ record { name = (codes "mpi://SELF"); members = [] } ∷ []) } }
+
+abbrev key_1 : Key
+key_1 = record { parent = 0; kind = kind.From; number = 0; tag = (codes "t"); members = (0 ∷ 1 ∷ []) }
+
+abbrev lines_1 : List Entry
+lines_1 =
+    line.call 0 0 (op.Session (codes "s")) (Some reply.Fine)
+    ∷ line.call 0 0 (op.Pset (codes "s") (codes "mpi://WORLD") (codes "w")) (Some (reply.Group (0 ∷ 1 ∷ [])))
+    ∷ line.call 0 0 (op.Create (codes "w") (codes "t") (codes "c")) None
+    ∷ line.call 1 0 (op.Session (codes "s")) (Some reply.Fine)
+    ∷ line.call 1 0 (op.Pset (codes "s") (codes "mpi://WORLD") (codes "w")) (Some (reply.Group (0 ∷ 1 ∷ [])))
+    ∷ line.call 1 0 (op.Create (codes "w") (codes "t") (codes "c")) None
+    ∷ []
+
+world_1 : World
+unfolding after same_key key_cmp key_before parent_of children_of may_own is_least is_ready all_own least_common up_from put_offer begin make_offer takes rounds_after pass_down decide settle_offers takes_up take_up takes_down take_down class_of share_list begin_share takes_share take_share divide takes_shares take_shares settle_share may_settle settle give_back close takes_packet deliver arrive post all_marked has_open_under calls offers settles box_takes delivers leaves gives_back is_enabled step call_of expanded step_of count_of
+world_1 = after (opening setting) lines_1
+
+-- the choices give these entries
+gives_1 : entries (opening setting) lines_1 ≡ lines_1
+unfolding after all_enabled entries same_key key_cmp key_before parent_of children_of may_own is_least is_ready all_own least_common up_from put_offer begin make_offer takes rounds_after pass_down decide settle_offers takes_up take_up takes_down take_down class_of share_list begin_share takes_share take_share divide takes_shares take_shares settle_share may_settle settle give_back close takes_packet deliver arrive post all_marked has_open_under calls offers settles box_takes delivers leaves gives_back is_enabled step call_of expanded step_of count_of world_1
+gives_1 = refl
+
+abbrev asked_1 : List Choice
+asked_1 =
+    record { rank = 0; act = act.Deliver 1 }
+    ∷ record { rank = 0; act = act.Settle key_1 }
+    ∷ record { rank = 1; act = act.Settle key_1 }
+    ∷ record { rank = 1; act = act.Deliver 0 }
+    ∷ record { rank = 0; act = act.Offer key_1 }
+    ∷ record { rank = 0; act = act.Answer 0 }
+    ∷ record { rank = 0; act = act.Leave 1 }
+    ∷ record { rank = 0; act = act.Back 1 }
+    ∷ record { rank = 0; act = act.Deliver 0 }
+    ∷ record { rank = 2; act = act.Deliver 0 }
+    ∷ record { rank = 0; act = act.Call 0 (op.Session (codes "t")) }
+    ∷ record { rank = 0; act = act.Call 1 (op.Session (codes "t")) }
+    ∷ record { rank = 0; act = act.Call 8 (op.Session (codes "t")) }
+    ∷ []
+
+-- at the start
+may_1 : map (may_happen world_1) asked_1 ≡ true ∷ false ∷ false ∷ false ∷ false ∷ false ∷ false ∷ false ∷ false ∷ false ∷ false ∷ true ∷ false ∷ []
+unfolding after all_enabled entries same_key key_cmp key_before parent_of children_of may_own is_least is_ready all_own least_common up_from put_offer begin make_offer takes rounds_after pass_down decide settle_offers takes_up take_up takes_down take_down class_of share_list begin_share takes_share take_share divide takes_shares take_shares settle_share may_settle settle give_back close takes_packet deliver arrive post all_marked has_open_under calls offers settles box_takes delivers leaves gives_back is_enabled step call_of expanded step_of count_of world_1
+may_1 = refl

@@ -1,0 +1,128 @@
+-- With one context a second creation finds none.
+use Rattle.std.proofs.Common.{◌≡◌, true, false, List, [], ◌∷◌, Some, None, codes, refl}
+use Rattle.mpi_base.specs.declared.keys.Key.{Key}
+use Rattle.mpi_base.specs.declared.keys.Kind.TheVariants as kind
+use Rattle.mpi_base.specs.declared.ops.Op.TheVariants as op
+use Rattle.mpi_base.specs.declared.replies.Reply.TheVariants as reply
+use Rattle.mpi_base.specs.declared.entries.Said.TheVariants as said
+use Rattle.mpi_base.specs.declared.entries.Brief.TheVariants as brief
+use Rattle.mpi_base.specs.declared.entries.Entry.{Entry}
+use Rattle.mpi_base.specs.Keys.{same_key, key_cmp, key_before}
+use Rattle.mpi_group.specs.Algebra.{count_of, step_of, expanded}
+use Rattle.agree_law.specs.Tree.{parent_of, children_of}
+use Rattle.agree_law.specs.Rule.{may_own, is_least}
+use Rattle.agree_law.specs.Gather.{is_ready, all_own, least_common}
+use Rattle.agree_law.specs.Offers.{up_from, put_offer, begin, make_offer, takes_up, take_up}
+use Rattle.agree_law.specs.Verdicts.{takes, rounds_after, pass_down, decide, settle_offers, takes_down, take_down}
+use Rattle.agree_law.specs.Classes.{class_of}
+use Rattle.agree_law.specs.Shares.{share_list, begin_share, takes_share, take_share, divide, takes_shares, take_shares, settle_share}
+use Rattle.agree_law.specs.Moves.{may_settle, settle, give_back, close, takes_packet, deliver}
+use Rattle.match_law.specs.Box.{arrive, post}
+use Rattle.comm_law.specs.Comms.{all_marked}
+use Rattle.mpi_law.specs.declared.setting.Setting.{Setting}
+use Rattle.mpi_law.specs.Splits.{split_class}
+use Rattle.mpi_law.specs.Local.{call_of}
+use Rattle.mpi_law.specs.Registry.State.{registry_opening}
+use Rattle.mpi_law.specs.Registry.Messages.{may_match}
+use Rattle.mpi_law.specs.Registry.Events.{registry_next}
+use Rattle.mpi_law.specs.ScriptLists.{AllScripts}
+use Rattle.mpi_law.specs.Registry.Runs.{registry_after}
+use Rattle.mpi_law.specs.Closed.{is_closed}
+use Rattle.mpi_law.proofs.Decided.{judged, all_right}
+use Rattle.mpi_protocol.specs.Rank.{has_open_under}
+use Rattle.mpi_protocol.specs.Calls.{calls}
+use Rattle.mpi_protocol.specs.Agreeing.{offers, settles}
+use Rattle.mpi_protocol.specs.Delivers.{takes_packet as box_takes, delivers}
+use Rattle.mpi_protocol.specs.Step.{is_enabled, step, leaves, gives_back}
+use Rattle.mpi_protocol.specs.World.{opening}
+use Rattle.mpi_protocol.specs.Run.{IsProtocolRun, end_of, events_of, entry_events}
+use Rattle.mpi_protocol.specs.Order.{IsDrained, IsQuiet}
+use Rattle.mpi_base.specs.declared.errors.ErrClass.TheVariants as class
+use Rattle.mpi_protocol.proofs.Lines as line
+use Rattle.mpi_protocol.proofs.Lines.{all_enabled, entries, run_when}
+use Rattle.mpi_protocol.proofs.Drained.{all_first, ops_due, ops_in, is_quiet, drained_when, quiet_when}
+
+abbrev setting : Setting
+setting = record { ranks = 2; contexts = 1; psets = record { ranks = 2; sets = (record { name = (codes "mpi://WORLD"); members = (0 ∷ 1 ∷ []) } ∷ record { name = (codes "mpi://SELF"); members = [] } ∷ []) } }
+
+abbrev key_1 : Key
+key_1 = record { parent = 0; kind = kind.From; number = 0; tag = (codes "a"); members = (0 ∷ 1 ∷ []) }
+
+abbrev key_2 : Key
+key_2 = record { parent = 0; kind = kind.From; number = 0; tag = (codes "b"); members = (0 ∷ 1 ∷ []) }
+
+abbrev journal : List Entry
+journal =
+    line.call 0 0 (op.Session (codes "s")) (Some reply.Fine)
+    ∷ line.call 0 0 (op.Pset (codes "s") (codes "mpi://WORLD") (codes "w")) (Some (reply.Group (0 ∷ 1 ∷ [])))
+    ∷ line.call 0 0 (op.Create (codes "w") (codes "a") (codes "c")) None
+    ∷ line.call 1 0 (op.Session (codes "s")) (Some reply.Fine)
+    ∷ line.call 1 0 (op.Pset (codes "s") (codes "mpi://WORLD") (codes "w")) (Some (reply.Group (0 ∷ 1 ∷ [])))
+    ∷ line.call 1 0 (op.Create (codes "w") (codes "a") (codes "c")) None
+    ∷ line.deliver 0 1 (brief.Up 0 false key_1)
+    ∷ line.settle 0 key_1 said.Ready
+    ∷ line.deliver 1 0 (brief.Down 0 said.Ready key_1)
+    ∷ line.offer 0 key_1 said.Own
+    ∷ line.offer 1 key_1 said.Own
+    ∷ line.deliver 0 1 (brief.Up 1 true key_1)
+    ∷ line.settle 0 key_1 (said.Picked 1)
+    ∷ line.deliver 1 0 (brief.Down 1 (said.Picked 1) key_1)
+    ∷ line.answer 0 0 (reply.Comm 1 0 2)
+    ∷ line.answer 1 0 (reply.Comm 1 1 2)
+    ∷ line.call 0 0 (op.Create (codes "w") (codes "b") (codes "d")) None
+    ∷ line.call 1 0 (op.Create (codes "w") (codes "b") (codes "d")) None
+    ∷ line.deliver 0 1 (brief.Up 0 false key_2)
+    ∷ line.settle 0 key_2 said.Ready
+    ∷ line.deliver 1 0 (brief.Down 0 said.Ready key_2)
+    ∷ line.offer 0 key_2 said.Own
+    ∷ line.offer 1 key_2 said.Own
+    ∷ line.deliver 0 1 (brief.Up 1 true key_2)
+    ∷ line.settle 0 key_2 said.Exhausted
+    ∷ line.deliver 1 0 (brief.Down 1 said.Exhausted key_2)
+    ∷ line.answer 0 0 (reply.Refused class.Exhausted)
+    ∷ line.answer 1 0 (reply.Refused class.Exhausted)
+    ∷ []
+
+abbrev scripts : AllScripts
+scripts = record { ranks = 2; lists = ((op.Session (codes "s")) ∷ (op.Pset (codes "s") (codes "mpi://WORLD") (codes "w")) ∷ (op.Create (codes "w") (codes "a") (codes "c")) ∷ (op.Create (codes "w") (codes "b") (codes "d")) ∷ []) ∷ ([]) ∷ ([]) ∷ ([]) ∷ ([]) ∷ ([]) ∷ ([]) ∷ ([]) ∷ ((op.Session (codes "s")) ∷ (op.Pset (codes "s") (codes "mpi://WORLD") (codes "w")) ∷ (op.Create (codes "w") (codes "a") (codes "c")) ∷ (op.Create (codes "w") (codes "b") (codes "d")) ∷ []) ∷ ([]) ∷ ([]) ∷ ([]) ∷ ([]) ∷ ([]) ∷ ([]) ∷ ([]) ∷ [] }
+
+gives : entries (opening setting) journal ≡ journal
+unfolding entries same_key key_cmp key_before parent_of children_of may_own is_least is_ready all_own least_common up_from put_offer begin make_offer takes rounds_after pass_down decide settle_offers takes_up take_up takes_down take_down class_of share_list begin_share takes_share take_share divide takes_shares take_shares settle_share may_settle settle give_back close takes_packet deliver arrive post all_marked has_open_under calls offers settles box_takes delivers leaves gives_back is_enabled step call_of expanded step_of count_of
+gives = refl
+
+enabled : all_enabled (opening setting) journal ≡ true
+unfolding all_enabled same_key key_cmp key_before parent_of children_of may_own is_least is_ready all_own least_common up_from put_offer begin make_offer takes rounds_after pass_down decide settle_offers takes_up take_up takes_down take_down class_of share_list begin_share takes_share take_share divide takes_shares take_shares settle_share may_settle settle give_back close takes_packet deliver arrive post all_marked has_open_under calls offers settles box_takes delivers leaves gives_back is_enabled step call_of expanded step_of count_of
+enabled = refl
+
+right : judged setting (registry_opening setting) (events_of journal) ≡ all_right (events_of journal)
+unfolding entry_events same_key split_class registry_next may_match call_of expanded step_of count_of judged
+right = refl
+
+closes : is_closed setting scripts (registry_after setting (registry_opening setting) (events_of journal)) ≡ true
+unfolding entry_events same_key split_class registry_next may_match call_of expanded step_of count_of is_closed
+closes = refl
+
+-- and the journal is a protocol run
+is_protocol_run : IsProtocolRun setting journal
+is_protocol_run = run_when (opening setting) journal enabled gives
+
+-- each choice is the first of those that may be made, and each call is the next of its script
+firsts : all_first scripts (opening setting) journal ≡ true
+unfolding all_first same_key key_cmp key_before parent_of children_of may_own is_least is_ready all_own least_common up_from put_offer begin make_offer takes rounds_after pass_down decide settle_offers takes_up take_up takes_down take_down class_of share_list begin_share takes_share take_share divide takes_shares take_shares settle_share may_settle settle give_back close takes_packet deliver arrive post all_marked has_open_under calls offers settles box_takes delivers leaves gives_back is_enabled step call_of expanded step_of count_of
+firsts = refl
+
+nexts : ops_due scripts (opening setting) journal ≡ ops_in journal
+unfolding ops_due same_key key_cmp key_before parent_of children_of may_own is_least is_ready all_own least_common up_from put_offer begin make_offer takes rounds_after pass_down decide settle_offers takes_up take_up takes_down take_down class_of share_list begin_share takes_share take_share divide takes_shares take_shares settle_share may_settle settle give_back close takes_packet deliver arrive post all_marked has_open_under calls offers settles box_takes delivers leaves gives_back is_enabled step call_of expanded step_of count_of
+nexts = refl
+
+-- so it is the journal of the drain
+is_drained : IsDrained scripts (opening setting) journal
+is_drained = drained_when scripts (opening setting) journal firsts nexts
+
+-- and nothing is left to do
+stops : is_quiet scripts (end_of setting journal) ≡ true
+unfolding is_quiet same_key key_cmp key_before parent_of children_of may_own is_least is_ready all_own least_common up_from put_offer begin make_offer takes rounds_after pass_down decide settle_offers takes_up take_up takes_down take_down class_of share_list begin_share takes_share take_share divide takes_shares take_shares settle_share may_settle settle give_back close takes_packet deliver arrive post all_marked has_open_under calls offers settles box_takes delivers leaves gives_back is_enabled step call_of expanded step_of count_of
+stops = refl
+
+ends_quiet : IsQuiet (end_of setting journal) scripts
+ends_quiet = quiet_when scripts (end_of setting journal) stops

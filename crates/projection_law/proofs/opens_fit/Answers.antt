@@ -1,0 +1,9 @@
+use Rattle.mpi_protocol.specs.World.{opening}
+use Rattle.mpi_protocol.specs.Run.{end_of}
+use Rattle.projection_law.specs.Events.{agreement_events}
+use Rattle.projection_law.proofs.SoundRuns.{runs_follow}
+use Rattle.projection_law.proofs.Laws.{opens_fit_there}
+use Rattle.projection_law.proofs.opens_fit.Goals as goal
+
+pub returns : goal.returns
+returns c = λ s journal sets known run. opens_fit_there s (end_of s journal) (agreement_events (opening s) journal) (runs_follow s journal sets run known).projected

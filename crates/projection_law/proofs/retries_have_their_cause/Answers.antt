@@ -1,0 +1,5 @@
+use Rattle.projection_law.proofs.RetryLaw.{retries_are_caused_in_journals}
+use Rattle.projection_law.proofs.retries_have_their_cause.Goals as goal
+
+pub returns : goal.returns
+returns c = λ s journal sets known run. retries_are_caused_in_journals s journal sets run known

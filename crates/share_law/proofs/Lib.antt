@@ -1,0 +1,6 @@
+pub mod ShareKept
+pub mod Foreign
+pub mod ShareLaw
+pub mod Exchanges
+pub mod ShareFacts
+pub mod OwnShares
