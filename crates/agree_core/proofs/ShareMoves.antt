@@ -1,12 +1,12 @@
 -- Moves on shares, step by step.
-use Rattle.std.proofs.Common.{◌≡◌, ◌<◌, ◌≤◌, ◌+◌, ℕ, ℤ, true, false, if◌then◌else◌, List, [], ◌∷◌, ◌++◌, map, take, length, get_or, refl, sym, subst, ◌∙◌, ap, arith, Option, Some, None}
+use Rattle.std.proofs.Common.{◌≡◌, ◌<◌, ◌≤◌, ◌+◌, ℕ, ℤ, true, false, List, [], ◌∷◌, ◌++◌, map, take, length, get_or, refl, sym, subst, ◌∙◌, ap, arith, Option, Some, None}
 use Rattle.std.specs.Prelude.{slice_get}
 use Rattle.std.proofs.lemmas.List.{append-nil, append_assoc, length-take, map-append, take_more}
 use Rattle.mpi_base.specs.declared.keys.Key.{Key}
 use Rattle.mpi_base.specs.declared.shares.Shared1.{Shared1}
 use Rattle.agree_law.specs.declared.rows.Stage.TheVariants.{Sharing}
 use Rattle.agree_law.specs.Tree.{is_first, member_at, place_in}
-use Rattle.agree_law.specs.Part.{Agree, close_creation, drop_shares, open_creation}
+use Rattle.agree_law.specs.Part.{close_creation, drop_shares, open_creation}
 use Rattle.agree_law.specs.Packets.{Packet as Packet_seen, Sent as Sent_seen, Share as share, Shares as shares}
 use Rattle.agree_law.specs.Offers.{begin}
 use Rattle.agree_law.specs.Classes.{split_key}
@@ -114,12 +114,6 @@ made-settle_share h old mid new key list before middle after is rank top part al
           (take_shares h.rank h.top (record h.part { shares = drop_shares h.part.shares key }) h.rank key (share_list h.part.shares key)).sent));
     })
 
--- whether the list is taken does not depend on the shares that are gathered
-takes_shares-alike : (h old : Held) (r : ℕ) (a : Agree) (key : Key) (list : List Shared1) → h ≡ old → r ≡ h.rank → a ≡ record h.part { shares = drop_shares h.part.shares key }
-    → takes_shares r a r key list ≡ takes_shares old.rank old.part old.rank key list
-unfolding takes_shares
-takes_shares-alike h old r a key list is rank part = rw (rank, part) (ap (λ (o : Held). takes_shares o.rank o.part o.rank key list) is)
-
 -- The list goes to the others
 
 others-append : (xs : List ℕ) (x : ℕ) (p : Packet_seen) → 1 ≤ length xs → to_others (xs ++ x ∷ []) p ≡ to_others xs p ++ record { to = x; packet = p } ∷ []
@@ -146,20 +140,10 @@ sent-other top ms q p start xs x above inside so_far is =
     ∙ ap (λ (ys : List Sent_seen). map (sent_of top) start ++ ys)
     (ap (λ (s : Sent_seen). to_others (take q ms) p ++ s ∷ []) is ∙ sym (others-more ms q p above inside))))
 
--- what an exchange that is settled goes on with
-module _ (h old : Held) (r : ℕ) (a : Agree) (key : Key) (list : List Shared1) (is : h ≡ old) (rank : r ≡ h.rank) (part : a ≡ record h.part { shares = drop_shares h.part.shares key })
-    (all : list ≡ share_list h.part.shares key) where
-  there : list ≡ share_list old.part.shares key
-  there = all ∙ ap (λ (o : Held). share_list o.part.shares key) is
-
-  test : takes_shares r a r key list ≡ takes_shares old.rank old.part old.rank key (share_list old.part.shares key)
-  test = takes_shares-alike h old r a key list is rank part ∙ ap (takes_shares old.rank old.part old.rank key) there
-
-  pub settled-none : takes_shares r a r key list ≡ false
-      → None ≡ (if takes_shares old.rank old.part old.rank key (share_list old.part.shares key) then class_key old.rank key (share_list old.part.shares key) else None)
-  settled-none other = rw (sym test ∙ other) refl
-
-  pub settled-some : (result : Option Key) → takes_shares r a r key list ≡ true → result ≡ class_key r key list
-      → result ≡ (if takes_shares old.rank old.part old.rank key (share_list old.part.shares key) then class_key old.rank key (share_list old.part.shares key) else None)
-  settled-some result taken is_class =
-      rw (sym test ∙ taken) (is_class ∙ (ap (λ (q : ℕ). class_key q key list) (rank ∙ ap (λ (o : Held). o.rank) is) ∙ ap (class_key old.rank key) there))
+-- the class by which an exchange that is settled goes on
+pub settled-class : (h old : Held) (r : ℕ) (key : Key) (list : List Shared1) (result : Option Key) → h ≡ old → r ≡ h.rank → list ≡ share_list h.part.shares key → result ≡ class_key r key list
+    → result ≡ class_key old.rank key (share_list old.part.shares key)
+settled-class h old r key list result is rank all is_class =
+    is_class
+    ∙ (ap (λ (q : ℕ). class_key q key list) rank
+    ∙ (ap (class_key h.rank key) all ∙ ap (λ (o : Held). class_key o.rank key (share_list o.part.shares key)) is))

@@ -1,5 +1,5 @@
 //! Calls and offers.
-ghost use Rattle.std.specs.Prelude.{◌≡◌, ◌≤◌, ◌+◌, ◌||◌, ◌++◌, if◌then◌else◌, map, not, true, is_err, is_some, OnErr, OnOk};
+ghost use Rattle.std.specs.Prelude.{◌≡◌, ◌≤◌, ◌+◌, ◌||◌, ◌++◌, if◌then◌else◌, map, not, true, is_err, is_some, OnErr, OnOk, length};
 ghost use Rattle.ctx_mask.specs.Masks.{none_of};
 ghost use Rattle.mpi_base.specs.Keys.{key_before};
 ghost use Rattle.agree_law.specs.Tree.{is_below as is_below_place, place_in as place_within};
@@ -42,6 +42,7 @@ impl<const W: usize> Agreements<W> {
         requires out { 1 ≤ room_of out.old }
         ensures sent { map (sent_of self.now.top) out.new.items ≡ map (sent_of self.now.top) out.old.items ++ up_from self.now.top self.now.part key.now (place_within key.now.members self.now.rank) }
         ensures room { room_of out.old ≤ room_of out.new + 1 }
+        ensures few { length out.new.items ≤ length out.old.items + 1 }
     {
         let place = place_in(key, self.rank);
         if place > 0 && self.gathers.is_ready(key, place) {
@@ -58,13 +59,17 @@ impl<const W: usize> Agreements<W> {
         }
     }
 
-    /// A creation is called, whether or not it is open here.
-    pub(crate) fn open(&mut self, key: &Key, out: &mut Vec<Sent<W>>)
+    /// A creation is called, whether or not its key is open here: a caller that holds each key until its
+    /// call is answered, which is longer than it is open here, tells by that whether it is busy. So nothing
+    /// is asked of the key, and nothing is refused. Its offer of round 0, which does not own, goes into
+    /// this rank's gather, and an `Up` follows where the gather is then whole. There is room for it.
+    pub fn open(&mut self, key: &Key, out: &mut Vec<Sent<W>>)
         requires room { 1 ≤ self.old.spare }
         requires out { 1 ≤ room_of out.old }
         ensures step { Makes (begin_move self.old.rank self.old.top self.old.part key.now) self.old self.new out.old.items out.new.items }
         ensures spare { self.old.spare ≤ self.new.spare + 1 }
         ensures room { room_of out.old ≤ room_of out.new + 1 }
+        ensures few { length out.new.items ≤ length out.old.items + 1 }
     {
         self.opened.push_reserved(CreationRow {
             key: key.copy(),
@@ -90,6 +95,7 @@ impl<const W: usize> Agreements<W> {
         ensures step { OnOk result (Makes (begin_move self.old.rank self.old.top self.old.part key.now) self.old self.new out.old.items out.new.items) }
         ensures spare { self.old.spare ≤ self.new.spare + 1 }
         ensures room { room_of out.old ≤ room_of out.new + 1 }
+        ensures few { length out.new.items ≤ length out.old.items + 1 }
     {
         if self.stage(key).is_some() {
             return Err(Busy);
@@ -157,6 +163,7 @@ impl<const W: usize> Agreements<W> {
         ensures step { Makes (make_offer self.old.rank self.old.top self.old.part key.now) self.old self.new out.old.items out.new.items }
         ensures spare { self.old.spare ≤ self.new.spare + 1 }
         ensures room { room_of out.old ≤ room_of out.new + 1 }
+        ensures few { length out.new.items ≤ length out.old.items + 1 }
     {
         let Some(round) = self.round_due(key) else {
             unreachable!()
@@ -198,6 +205,7 @@ impl<const W: usize> Agreements<W> {
         ensures step { Makes (take_up self.old.rank self.old.top self.old.part from key.now round own (front self.old.top mask.now)) self.old self.new out.old.items out.new.items }
         ensures spare { self.old.spare ≤ self.new.spare + 1 }
         ensures room { room_of out.old ≤ room_of out.new + 1 }
+        ensures few { length out.new.items ≤ length out.old.items + 1 }
     {
         let _round = round;
         let _rank = self.rank;

@@ -1,5 +1,5 @@
 //! Settles and verdicts.
-ghost use Rattle.std.specs.Prelude.{◌≡◌, ℕ, ◌≤◌, ◌<◌, ◌+◌, ◌-◌, ◌^◌, ◌++◌, false, get_or, map, true};
+ghost use Rattle.std.specs.Prelude.{◌≡◌, ℕ, ◌≤◌, ◌<◌, ◌+◌, ◌-◌, ◌^◌, ◌++◌, false, get_or, map, true, length};
 ghost use Rattle.agree_law.specs.Rule.{is_key};
 ghost use Rattle.agree_law.specs.Gather.{verdict_of};
 ghost use Rattle.agree_law.specs.Verdicts.{awaits as awaits_now, awaits_ready as awaits_ready_at, awaits_round as awaits_round_at, decide as decided, may_settle_offers, pass_down, rounds_after, settle_offers, take_down, takes as taken, takes_down};
@@ -26,6 +26,7 @@ fn send_down<const W: usize>(
     requires out { 16 ≤ room_of out.old }
     ensures sent { (top : ℕ) → map (sent_of top) out.new.items ≡ map (sent_of top) out.old.items ++ pass_down key.now parent round verdict }
     ensures room { room_of out.old ≤ room_of out.new + 16 }
+    ensures few { length out.new.items ≤ length out.old.items + 16 }
 {
     for place in 0..key.members.len() {
         if is_child(parent, place) {
@@ -101,6 +102,7 @@ impl<const W: usize> Agreements<W> {
         ensures step { Makes (decided self.old.rank self.old.part key.now round verdict) self.old self.new out.old.items out.new.items }
         ensures spare { self.old.spare ≤ self.new.spare + 1 }
         ensures room { room_of out.old ≤ room_of out.new + 16 }
+        ensures few { length out.new.items ≤ length out.old.items + 16 }
     {
         send_down(out, key, place_in(key, self.rank), round, verdict);
         self.take(key, round, verdict);
@@ -123,9 +125,11 @@ impl<const W: usize> Agreements<W> {
         requires round { round_of self.old.part.rounds key.now < 2 ^ 64 - 1 }
         requires out { 16 ≤ room_of out.old }
         ensures verdict { result ≡ verdict_of self.old.top self.old.part.gathered key.now (round_of self.old.part.rounds key.now) }
+        ensures pick { IsPick self.old.top result }
         ensures step { Makes (settle_offers self.old.rank self.old.top self.old.part key.now) self.old self.new out.old.items out.new.items }
         ensures spare { self.old.spare ≤ self.new.spare + 1 }
         ensures room { room_of out.old ≤ room_of out.new + 16 }
+        ensures few { length out.new.items ≤ length out.old.items + 16 }
     {
         let round = self.gathers.round(key);
         let verdict = self.gathers.verdict(key);
@@ -191,9 +195,11 @@ impl<const W: usize> Agreements<W> {
         requires room { 1 ≤ self.old.spare }
         requires round { round < 2 ^ 64 - 1 }
         requires out { 16 ≤ room_of out.old }
+        ensures pick { IsPick self.old.top verdict }
         ensures step { Makes (take_down self.old.rank self.old.part from key.now round verdict) self.old self.new out.old.items out.new.items }
         ensures spare { self.old.spare ≤ self.new.spare + 1 }
         ensures room { room_of out.old ≤ room_of out.new + 16 }
+        ensures few { length out.new.items ≤ length out.old.items + 16 }
     {
         let _from = from;
         let _rank = self.rank;

@@ -1,5 +1,5 @@
 //! Shares of a split, and the classes that come of them.
-ghost use Rattle.std.specs.Prelude.{◌≡◌, ℕ, ◌≤◌, ◌+◌, ◌++◌, if◌then◌else◌, map, option_map, slice_get, true, Some, None};
+ghost use Rattle.std.specs.Prelude.{◌≡◌, ℕ, ◌≤◌, ◌+◌, ◌++◌, map, option_map, slice_get, true, Some, length};
 ghost use Rattle.agree_law.specs.Classes.{split_key as split_key_of};
 ghost use Rattle.agree_law.specs.Shares.{begin_share as begun_share, colour_at as colour_of, divide as divided, may_settle_share as may_settle_share_now, settle_share as settled_share, share_list, take_share as taken_share, take_shares as taken_shares, takes_share, takes_shares, to_others};
 ghost use Rattle.agree_law.specs.Packets.{Shares};
@@ -21,6 +21,7 @@ fn send_shares<const W: usize>(out: &mut Vec<Sent<W>>, key: &Key, list: &ShareLi
     requires out { 16 ≤ room_of out.old + 1 }
     ensures sent { (top : ℕ) → map (sent_of top) out.new.items ≡ map (sent_of top) out.old.items ++ to_others key.now.members (Shares key.now list.now) }
     ensures room { room_of out.old + 1 ≤ room_of out.new + 16 }
+    ensures few { length out.new.items + 1 ≤ length out.old.items + 16 }
 {
     for place in 1..key.members.len() {
         out.push_reserved(Sent {
@@ -52,6 +53,7 @@ impl<const W: usize> Agreements<W> {
         ensures step { Makes (begun_share self.old.rank self.old.part key.now share) self.old self.new out.old.items out.new.items }
         ensures spare { self.old.spare ≤ self.new.spare + 1 }
         ensures room { room_of out.old ≤ room_of out.new + 1 }
+        ensures few { length out.new.items ≤ length out.old.items + 1 }
     {
         self.opened.push_reserved(CreationRow {
             key: key.copy(),
@@ -116,6 +118,7 @@ impl<const W: usize> Agreements<W> {
         ensures step { Makes (divided self.old.rank self.old.top self.old.part key.now colour list.now) self.old self.new out.old.items out.new.items }
         ensures spare { self.old.spare ≤ self.new.spare + 1 }
         ensures room { room_of out.old ≤ room_of out.new + 1 }
+        ensures few { length out.new.items ≤ length out.old.items + 1 }
     {
         close_creation(&mut self.opened, key);
         let Some(colour) = colour else {
@@ -166,23 +169,34 @@ impl<const W: usize> Agreements<W> {
         ensures step { Makes (taken_shares self.old.rank self.old.top self.old.part from key.now list.now) self.old self.new out.old.items out.new.items }
         ensures spare { self.old.spare ≤ self.new.spare + 1 }
         ensures room { room_of out.old ≤ room_of out.new + 1 }
+        ensures few { length out.new.items ≤ length out.old.items + 1 }
     {
         let _from = from;
         let colour = self.own_colour(key, list);
         self.divide(key, colour, list, out)
     }
 
+    /// The key of this rank's class by a list of all members' shares; None where its colour is undefined.
+    fn own_class(&self, key: &Key, list: &ShareList) -> Option<Key>
+        ensures { result ≡ class_key self.now.rank key.now list.now }
+    {
+        let colour = self.own_colour(key, list)?;
+        Some(split_key(key, colour, list))
+    }
+
     /// The first member settles an exchange, where all members' shares are there: the list goes to each
     /// other member, in order of place, and is taken here as in [`Agreements::take_shares`] where this
-    /// rank's own share at its place is the one that it told.
+    /// rank's own share at its place is the one that it told. Gives the key of this rank's class by the
+    /// list; None exactly where its colour there is undefined.
     pub fn settle_share(&mut self, key: &Key, out: &mut Vec<Sent<W>>) -> Option<Key>
         requires whole { may_settle_share_now self.old.rank self.old.part key.now ≡ true }
         requires room { 1 ≤ self.old.spare }
         requires out { 16 ≤ room_of out.old }
-        ensures opened { result ≡ (if takes_shares self.old.rank self.old.part self.old.rank key.now (share_list self.old.part.shares key.now) then class_key self.old.rank key.now (share_list self.old.part.shares key.now) else None) }
+        ensures opened { result ≡ class_key self.old.rank key.now (share_list self.old.part.shares key.now) }
         ensures step { Makes (settled_share self.old.rank self.old.top self.old.part key.now) self.old self.new out.old.items out.new.items }
         ensures spare { self.old.spare ≤ self.new.spare + 1 }
         ensures room { room_of out.old ≤ room_of out.new + 16 }
+        ensures few { length out.new.items ≤ length out.old.items + 16 }
     {
         let rank = self.rank;
         let list = self.shares.list(key);
@@ -191,7 +205,7 @@ impl<const W: usize> Agreements<W> {
         if self.may_take_shares(rank, key, &list) {
             self.take_shares(rank, key, &list, out)
         } else {
-            None
+            self.own_class(key, &list)
         }
     }
 }

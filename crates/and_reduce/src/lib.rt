@@ -8,6 +8,8 @@ mod offers;
 mod packets;
 mod share_lists;
 mod shares;
+#[cfg(test)]
+mod tests;
 mod tree;
 
 pub use gathers::{Gathers, Joined};

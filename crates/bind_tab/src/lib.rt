@@ -4,9 +4,11 @@
 mod binds;
 mod bound;
 mod laws;
+mod objects;
 #[cfg(test)]
 mod tests;
 
 pub use binds::Binds;
 pub use bound::Bound;
 pub use laws::{changed_names_change, other_names_stay, session_ends};
+pub use objects::Objects;

@@ -1,8 +1,9 @@
 //! The table of communicators.
-ghost use Rattle.std.specs.Prelude.{◌≡◌, ◌+◌, ◌-◌, ◌^◌, ◌<◌, ◌≤◌, ◌==◌, false, true, None, IsSome, OnOk, if◌then◌else◌, length, map, position, slice_get};
+ghost use Rattle.std.specs.Prelude.{◌≡◌, ◌+◌, ◌-◌, ◌^◌, ◌<◌, ◌≤◌, ◌==◌, false, OnOk, if◌then◌else◌, All, map};
 ghost use Rattle.std.specs.Option.{option_copied};
 ghost use Rattle.std.specs.List.{list_all};
-ghost use Rattle.comm_law.specs.Comms.{no_comms, row_at, comm_at, has_serial, has_session, is_noted, is_freed_at, add, freed, freed_stage, count_call, mark_free, free_session, leave, note_marker, is_marked_by, all_marked, remove};
+ghost use Rattle.comm_law.specs.declared.rows.CommStage.TheVariants.{Left};
+ghost use Rattle.comm_law.specs.Comms.{no_comms, row_at, comm_at, has_serial, has_session, is_noted, add, one_call_more, with_stage, freed, freed_stage, count_call, mark_free, free_session, leave, note_marker, is_marked_by, all_marked, remove};
 ghost use Rattle.comm_tab.specs.Tables.{IsOrderly};
 
 use comm_law::{CommRow, CommStage, MarkerRow};
@@ -13,8 +14,9 @@ use std::marker::Model;
 /// The communicators of a rank, from the pick of their context until the rank gives it back, and the
 /// markers by which members tell that they have left one. All of it is this project's own.
 ///
-/// The rows stand in the order in which they were added, and lookups go through them: a rank has at
-/// most one row for each context, and few markers at a time.
+/// The rows stand in the order in which they were added, and lookups go through them: a rank has few
+/// rows and markers at a time. Nothing here asks that contexts differ. A lookup gives the first row with
+/// a context, and a change is one of each row with it.
 #[derive(Drop)]
 pub struct CommTab {
     rank: u16,
@@ -45,6 +47,40 @@ fn stage_once_freed(stage: CommStage) -> CommStage
     match stage {
         CommStage::Live | CommStage::Freed => CommStage::Freed,
         CommStage::Left => CommStage::Left,
+    }
+}
+
+/// Counts one more call on each communicator with a context.
+fn count_calls(rows: &mut [CommRow], ctx: u16)
+    requires { All (λ m. m.calls < 2 ^ 64 - 1) rows.old }
+    ensures { rows.new ≡ map (λ m. if m.ctx == ctx then one_call_more m else m) rows.old }
+{
+    for row in rows {
+        if row.ctx == ctx {
+            row.calls += 1;
+        }
+    }
+}
+
+/// Frees each communicator with a context.
+fn free_context(rows: &mut [CommRow], ctx: u16)
+    ensures { rows.new ≡ map (λ m. if m.ctx == ctx then freed m else m) rows.old }
+{
+    for row in rows {
+        if row.ctx == ctx {
+            row.stage = stage_once_freed(row.stage);
+        }
+    }
+}
+
+/// Leaves each communicator with a context.
+fn leave_context(rows: &mut [CommRow], ctx: u16)
+    ensures { rows.new ≡ map (λ m. if m.ctx == ctx then with_stage Left m else m) rows.old }
+{
+    for row in rows {
+        if row.ctx == ctx {
+            row.stage = CommStage::Left;
+        }
     }
 }
 
@@ -85,11 +121,10 @@ impl CommTab {
         Ok(())
     }
 
-    /// Adds a communicator that is in use, under a context that no other one has here, and gives its
-    /// serial: the number of those added so far, from 1. There is room for it, and fewer than the
+    /// Adds a communicator that is in use, whether or not another one has its context here, and gives
+    /// its serial: the number of those added so far, from 1. There is room for it, and fewer than the
     /// greatest `u64` were added before.
     pub fn add(&mut self, ctx: u16, members: Members, session: u64) -> u64
-        requires absent { row_at self.old.comms ctx ≡ None }
         requires room { 1 ≤ self.old.spare }
         requires count { self.old.comms.added < 2 ^ 64 - 1 }
         ensures serial { result ≡ self.old.comms.added + 1 }
@@ -118,7 +153,7 @@ impl CommTab {
         self.rows.as_slice()
     }
 
-    /// The communicator with a context; None exactly where none has it.
+    /// The first communicator with a context; None exactly where none has it.
     pub fn find(&self, ctx: u16) -> Option<&CommRow>
         ensures { option_copied result ≡ row_at self.now.comms ctx }
     {
@@ -139,33 +174,39 @@ impl CommTab {
         self.rows.iter().any(|row| row.session == session)
     }
 
-    /// Counts one more call of dup or split on a communicator, and gives how many there were before.
-    /// It is there, and there were fewer than the greatest `u64`.
+    /// Counts one more call of dup or split on each communicator with a context, and gives how many there
+    /// were before on the first of them, 0 where there is none. Each communicator had fewer than the
+    /// greatest `u64`.
     pub fn count_call(&mut self, ctx: u16) -> u64
-        requires there { IsSome (row_at self.old.comms ctx) }
-        requires count { (comm_at self.old.comms ctx).calls < 2 ^ 64 - 1 }
+        requires count { All (λ m. m.calls < 2 ^ 64 - 1) self.old.comms.rows }
         ensures before { result ≡ (comm_at self.old.comms ctx).calls }
         ensures comms { self.new.comms ≡ count_call self.old.comms ctx }
         ensures rank { self.new.rank ≡ self.old.rank }
         ensures spare { self.new.spare ≡ self.old.spare }
     {
-        let place = self.place_of(ctx);
-        let row = &mut self.rows[place];
-        let before = row.calls;
-        row.calls = before + 1;
+        let before = self.calls(ctx);
+        count_calls(&mut self.rows, ctx);
         before
     }
 
-    /// Frees a communicator that is there. One that was freed or left before stays as it is.
+    /// How many calls there were on the first communicator with a context, 0 where there is none.
+    fn calls(&self, ctx: u16) -> u64
+        ensures { result ≡ (comm_at self.now.comms ctx).calls }
+    {
+        match self.find(ctx) {
+            Some(row) => row.calls,
+            None => 0,
+        }
+    }
+
+    /// Frees each communicator with a context. One that was freed or left before stays as it is, and
+    /// nothing changes where none has the context.
     pub fn mark_free(&mut self, ctx: u16)
-        requires there { IsSome (row_at self.old.comms ctx) }
         ensures comms { self.new.comms ≡ mark_free self.old.comms ctx }
         ensures rank { self.new.rank ≡ self.old.rank }
         ensures spare { self.new.spare ≡ self.old.spare }
     {
-        let place = self.place_of(ctx);
-        let row = &mut self.rows[place];
-        row.stage = stage_once_freed(row.stage);
+        free_context(&mut self.rows, ctx);
     }
 
     /// Frees each communicator of a session, as [`CommTab::mark_free`] does.
@@ -177,15 +218,14 @@ impl CommTab {
         free_rows(&mut self.rows, session);
     }
 
-    /// The rank leaves a communicator that is there, freed and not left.
+    /// The rank leaves each communicator with a context, whether or not it was freed. Nothing changes
+    /// where none has the context.
     pub fn leave(&mut self, ctx: u16)
-        requires freed { is_freed_at self.old.comms ctx ≡ true }
         ensures comms { self.new.comms ≡ leave self.old.comms ctx }
         ensures rank { self.new.rank ≡ self.old.rank }
         ensures spare { self.new.spare ≡ self.old.spare }
     {
-        let place = self.place_of(ctx);
-        self.rows[place].stage = CommStage::Left;
+        leave_context(&mut self.rows, ctx);
     }
 
     /// Notes that a member has left the communicator with a context, which may not be known here yet.
@@ -209,7 +249,7 @@ impl CommTab {
             .any(|marker| marker.ctx == ctx && marker.from == from)
     }
 
-    /// Whether the rank has left the communicator with a context, and the marker of each other member
+    /// Whether the rank has left the first communicator with a context, and the marker of each other member
     /// is noted. False where none has the context.
     #[tactic(auto, unfolding(comm_law::specs::Comms::all_marked))]
     pub fn all_marked(&self, ctx: u16) -> bool
@@ -244,30 +284,14 @@ impl CommTab {
         member == self.rank || self.is_noted(ctx, member)
     }
 
-    /// Takes out a communicator that the rank and each other member have left, and its markers.
+    /// Takes out each communicator with a context and its markers, whether or not all members have left
+    /// it: the caller asks [`CommTab::all_marked`] first.
     pub fn remove(&mut self, ctx: u16)
-        requires marked { all_marked self.old.comms self.old.rank ctx ≡ true }
         ensures comms { self.new.comms ≡ remove self.old.comms ctx }
         ensures rank { self.new.rank ≡ self.old.rank }
         ensures spare { self.old.spare ≤ self.new.spare }
     {
         self.rows.retain(|row| row.ctx != ctx);
         self.markers.retain(|marker| marker.ctx != ctx);
-    }
-
-    /// The place of the communicator with a context; None exactly where none has it.
-    fn position(&self, ctx: u16) -> Option<usize>
-        ensures { result ≡ position (λ m. m.ctx == ctx) self.now.comms.rows }
-    {
-        self.rows.iter().position(|row| row.ctx == ctx)
-    }
-
-    /// The place of a communicator that is there.
-    fn place_of(&self, ctx: u16) -> usize
-        requires { IsSome (row_at self.now.comms ctx) }
-        ensures within { result < length self.now.comms.rows }
-        ensures row { slice_get self.now.comms.rows result ≡ row_at self.now.comms ctx }
-    {
-        self.position(ctx).unwrap()
     }
 }

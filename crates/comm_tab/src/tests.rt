@@ -60,3 +60,25 @@ fn the_communicators_of_one_session_are_freed(rt: HostRuntime) {
         assert_eq!(rt; comms.has_serial(serial), is_there, "serial {serial}");
     }
 }
+
+#[test]
+fn each_communicator_with_a_context_changes(rt: HostRuntime) {
+    let mut comms = CommTab::none(rt.alloc(), 1);
+    comms.reserve().expect(&rt, "memory");
+    comms.add(3, members(&[0, 1]), 7);
+    comms.reserve().expect(&rt, "memory");
+    comms.add(3, members(&[1, 2]), 8);
+    comms.mark_free(4);
+    comms.leave(4);
+    for stage in [CommStage::Live, CommStage::Freed, CommStage::Left] {
+        assert!(rt; comms.rows().iter().all(|row| row.stage == stage));
+        if stage == CommStage::Live {
+            comms.mark_free(3);
+        } else {
+            comms.leave(3);
+        }
+    }
+    assert_eq!(rt; comms.rows().len(), 2);
+    comms.remove(3);
+    assert!(rt; comms.rows().is_empty());
+}

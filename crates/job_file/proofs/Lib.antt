@@ -6,3 +6,4 @@ mod Faultless
 mod Added
 mod Unbuilt
 mod Laws
+mod Examples

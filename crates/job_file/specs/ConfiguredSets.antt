@@ -8,7 +8,7 @@ use Rattle.mpi_base.specs.MemberLists.{has_rank}
 use Rattle.pset_reg.specs.Sets.{NamedSet, ProcessSets, first_sets, names}
 use Rattle.token_text.specs.Forms.{fault_of}
 use Rattle.token_text.specs.Texts.{pset_name_form}
-use Rattle.toml.specs.Data.{Data, integer, array, Items, no_items, item, Members, no_members, member}
+use Rattle.toml.specs.Data.{Data, string, integer, float, boolean, datetime, array, table, Items, no_items, item, Members, no_members, member}
 use Rattle.job_file.specs.declared.faults.JobFault.{JobFault}
 use Rattle.job_file.specs.declared.faults.JobFault.TheVariants.{PsetMember}
 use Rattle.job_file.specs.Keys.{first_failing}
@@ -26,7 +26,12 @@ one_more ranks found (Some r) = if nat_lt r ranks && not (has_rank found r) then
 
 abbrev pub number_in : Data → Option ℕ
 number_in (integer z) = natural z
-number_in _ = None
+number_in (string s) = None
+number_in (float x) = None
+number_in (boolean b) = None
+number_in (datetime t) = None
+number_in (array ds) = None
+number_in (table ms) = None
 
 -- the items behind ranks that were found, in order; None where one of them is no rank, or is repeated
 abbrev pub ranks_behind : ℕ → Option (List ℕ) → Items → Option (List ℕ)
@@ -36,7 +41,12 @@ ranks_behind ranks found (item d ds) = ranks_behind ranks (option_and_then (λ l
 -- the ranks that a value lists; None where it lists no different ranks
 abbrev pub ranks_in : ℕ → Data → Option (List ℕ)
 ranks_in ranks (array ds) = ranks_behind ranks (Some []) ds
-ranks_in ranks _ = None
+ranks_in ranks (string s) = None
+ranks_in ranks (integer z) = None
+ranks_in ranks (float x) = None
+ranks_in ranks (boolean b) = None
+ranks_in ranks (datetime t) = None
+ranks_in ranks (table ms) = None
 
 -- the name is free, and the value lists different ranks
 abbrev pub is_set : ℕ → List ℕ → Data → Bool

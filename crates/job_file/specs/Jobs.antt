@@ -2,6 +2,7 @@
 use Rattle.std.specs.Prelude.{◌≡◌, ◌⊎◌, ℕ, ◌+◌, ◌*◌, ◌==◌, ◌<◌, ◌≤◌, if◌then◌else◌, List, [], ◌∷◌, length, take, Option, Some, None, IsUtf8}
 use Rattle.std.specs.Str.{IsValidUpTo}
 use Rattle.mpi_law.specs.declared.setting.Setting.{Setting}
+use Rattle.mpi_law.specs.declared.setting.TheConstants.{THREADS}
 use Rattle.mpi_law.specs.ScriptLists.{AllScripts, script_of}
 use Rattle.toml.specs.Data.{Members}
 use Rattle.toml.specs.Parse.{parse_document}
@@ -50,11 +51,11 @@ IsJobFault bytes fault = IsNotUtf8 bytes fault ⊎ (IsNotToml bytes fault ⊎ Is
 
 -- Jobs
 
--- eight scripts for each of so many ranks, each spelled by the lines of its text
+-- THREADS scripts for each of so many ranks, each spelled by the lines of its text
 pub record AreScripts (n : ℕ) (text : ℕ → List ℕ) (all : AllScripts) : Type 0 where
   pub ranks : all.ranks ≡ n
-  pub each : length all.lists ≡ 8 * n
-  pub spelled : (r t : ℕ) → r < n → t < 8 → Spell (lines_of (text (8 * r + t))) (script_of all r t)
+  pub each : length all.lists ≡ THREADS * n
+  pub spelled : (r t : ℕ) → r < n → t < THREADS → Spell (lines_of (text (THREADS * r + t))) (script_of all r t)
 
 -- a table without a fault, and what it says
 pub record IsJobTable (ms : Members) (s : Setting) (all : AllScripts) : Type 0 where

@@ -9,7 +9,8 @@ use Rattle.pset_reg.specs.Sets.{start_of}
 use Rattle.solo_registry.specs.Built.{is_built}
 use Rattle.script_text.specs.Spelling.{IsOp, Spells}
 use Rattle.job_file.specs.declared.faults.JobFault.{JobFault}
-use Rattle.job_file.specs.declared.faults.JobFault.TheVariants.{ScriptLong, Line, NotBuilt}
+use Rattle.job_file.specs.declared.faults.JobFault.TheVariants.{NotUtf8, NotToml, UnknownKey, Missing, WrongKind, OutOfRange, PsetMember, ScriptName, ScriptLong, Line, NotBuilt, TooManyOps, Memory}
+use Rattle.job_file.specs.declared.lines.TheConstants.{MOST_LINES}
 use Rattle.job_file.specs.Lines.{lines_of, body_of, is_blank, Spell, first_fault}
 
 -- one rank, the contexts from 1 to 63, and the two process sets that are always there
@@ -35,21 +36,30 @@ abbrev pub FirstUnbuilt : ℕ → List (List ℕ) → ℕ → Type 0
 FirstUnbuilt n [] found = ⊥
 FirstUnbuilt n (line ∷ lines) found = UnlessBlank (is_blank line) (body_of line) n found (FirstUnbuilt (n + 1) lines found)
 
--- a script of one thread: at most 4,096 lines, which spell these operations, and all of them may be called yet
+-- a script of one thread: at most MOST_LINES lines, which spell these operations, and all of them may be called yet
 pub record IsSoloScript (bytes : List ℕ) (ops : List Op) : Type 0 where
-  pub few : length (lines_of bytes) ≤ 4096
+  pub few : length (lines_of bytes) ≤ MOST_LINES
   pub spelled : Spell (lines_of bytes) ops
   pub built : AllByRecursion (λ op. is_built 1 op ≡ true) ops
 
 -- what is wrong with bytes that are no such script: too many lines, else the first fault of a line, else the first
 -- operation that may not be called yet; all of it is of the one thread 0 of rank 0
 abbrev pub IsSoloFault : List ℕ → JobFault → Type 0
-IsSoloFault bytes (ScriptLong rank thread) = (rank ≡ 0) × (thread ≡ 0) × (4096 < length (lines_of bytes))
+IsSoloFault bytes (ScriptLong rank thread) = (rank ≡ 0) × (thread ≡ 0) × (MOST_LINES < length (lines_of bytes))
 IsSoloFault bytes (Line rank thread line fault) =
-    (rank ≡ 0) × (thread ≡ 0) × (length (lines_of bytes) ≤ 4096) × (first_fault 1 (lines_of bytes) ≡ Some (line, fault))
+    (rank ≡ 0) × (thread ≡ 0) × (length (lines_of bytes) ≤ MOST_LINES) × (first_fault 1 (lines_of bytes) ≡ Some (line, fault))
 IsSoloFault bytes (NotBuilt rank thread line) =
-    (rank ≡ 0) × (thread ≡ 0) × (length (lines_of bytes) ≤ 4096) × (first_fault 1 (lines_of bytes) ≡ None) × FirstUnbuilt 1 (lines_of bytes) line
-IsSoloFault bytes _ = ⊥
+    (rank ≡ 0) × (thread ≡ 0) × (length (lines_of bytes) ≤ MOST_LINES) × (first_fault 1 (lines_of bytes) ≡ None) × FirstUnbuilt 1 (lines_of bytes) line
+IsSoloFault bytes (NotUtf8 line column) = ⊥
+IsSoloFault bytes (NotToml line column) = ⊥
+IsSoloFault bytes (UnknownKey key) = ⊥
+IsSoloFault bytes (Missing key) = ⊥
+IsSoloFault bytes (WrongKind key entry) = ⊥
+IsSoloFault bytes (OutOfRange key least greatest) = ⊥
+IsSoloFault bytes (PsetMember name) = ⊥
+IsSoloFault bytes (ScriptName key) = ⊥
+IsSoloFault bytes TooManyOps = ⊥
+IsSoloFault bytes Memory = ⊥
 
 -- Lines that may be called, and lines that may not
 

@@ -1,6 +1,7 @@
 //! The scripts of a job, thread by thread. The script of thread `t` of rank `r` has the place `8 r + t`.
 ghost use Rattle.std.specs.Prelude.{◌≡◌, ◌≤◌, ◌<◌, ◌*◌, ◌+◌, ◌^◌, [], ◌∷◌, length, replicate, bytes_eq, None, option_map, IfOk, OnOk};
 ghost use Rattle.mpi_base.specs.declared.members.TheConstants.{MOST_RANKS};
+ghost use Rattle.mpi_law.specs.declared.setting.TheConstants.{THREADS};
 ghost use Rattle.mpi_law.specs.ScriptLists.{total_of};
 ghost use Rattle.toml.specs.View.{view, table_view};
 ghost use Rattle.job_file.specs.Lines.{lines_of, first_fault as first_fault_of, line_fault as line_fault_of};
@@ -12,7 +13,7 @@ ghost use Rattle.job_file.specs.Jobs.{AreScripts};
 
 use crate::faults::JobFault;
 use crate::keys::KeyText;
-use crate::lines::{are_many, body, first_fault, first_line, op_count};
+use crate::lines::{MOST_LINES, are_many, body, first_fault, first_line, op_count};
 use mpi_base::OutOfMemory;
 use mpi_law::Scripts;
 use script_text::{is_blank, lines_tell, read_line};
@@ -100,7 +101,7 @@ fn rank_at(place: u16) -> u16
 
 fn thread_at(place: u16) -> u8
     ensures value { result ≡ spec.thread_at place }
-    ensures small { result < 8 }
+    ensures small { result < THREADS }
 {
     (place % 8) as u8
 }
@@ -108,7 +109,7 @@ fn thread_at(place: u16) -> u8
 /// The first script that has too many lines.
 fn first_long(ranks: u16, table: &Table) -> Option<JobFault>
     requires { ranks ≤ MOST_RANKS }
-    ensures { result ≡ spec.first_at (spec.long_at (table_view table.now)) 0 (8 * ranks) }
+    ensures { result ≡ spec.first_at (spec.long_at (table_view table.now)) 0 (THREADS * ranks) }
 {
     for place in 0..8 * ranks {
         if are_many(script_at(table, place)) {
@@ -124,7 +125,7 @@ fn first_long(ranks: u16, table: &Table) -> Option<JobFault>
 /// The first fault of a line in the script of a place.
 fn line_fault_at(table: &Table, place: u16) -> Option<JobFault>
     requires place { place < 128 }
-    requires few { length (lines_of (spec.script_at (table_view table.now) place)) ≤ 4096 }
+    requires few { length (lines_of (spec.script_at (table_view table.now) place)) ≤ MOST_LINES }
     ensures { result ≡ spec.line_at (table_view table.now) place }
 {
     let (line, fault) = first_fault(script_at(table, place))?;
@@ -139,8 +140,8 @@ fn line_fault_at(table: &Table, place: u16) -> Option<JobFault>
 /// The first line that has a fault.
 fn first_line_fault(ranks: u16, table: &Table) -> Option<JobFault>
     requires ranks { ranks ≤ MOST_RANKS }
-    requires few { spec.first_at (spec.long_at (table_view table.now)) 0 (8 * ranks) ≡ None }
-    ensures { result ≡ spec.first_at (spec.line_at (table_view table.now)) 0 (8 * ranks) }
+    requires few { spec.first_at (spec.long_at (table_view table.now)) 0 (THREADS * ranks) ≡ None }
+    ensures { result ≡ spec.first_at (spec.line_at (table_view table.now)) 0 (THREADS * ranks) }
 {
     for place in 0..8 * ranks {
         match line_fault_at(table, place) {
@@ -154,8 +155,8 @@ fn first_line_fault(ranks: u16, table: &Table) -> Option<JobFault>
 /// How many operations there are in all.
 fn count_ops(ranks: u16, table: &Table) -> u32
     requires ranks { ranks ≤ MOST_RANKS }
-    requires few { spec.first_at (spec.long_at (table_view table.now)) 0 (8 * ranks) ≡ None }
-    ensures { result ≡ spec.ops_from (table_view table.now) 0 (8 * ranks) }
+    requires few { spec.first_at (spec.long_at (table_view table.now)) 0 (THREADS * ranks) ≡ None }
+    ensures { result ≡ spec.ops_from (table_view table.now) 0 (THREADS * ranks) }
 {
     let mut count = 0;
     for place in 0..8 * ranks {
@@ -192,8 +193,8 @@ pub(crate) fn add_script(
     bytes: &[u8],
 ) -> Result<(), OutOfMemory>
     requires rank { rank < scripts.old.ranks }
-    requires thread { thread < 8 }
-    requires few { length (lines_of bytes.now) ≤ 4096 }
+    requires thread { thread < THREADS }
+    requires few { length (lines_of bytes.now) ≤ MOST_LINES }
     requires good { first_fault_of 1 (lines_of bytes.now) ≡ None }
     requires room { total_of scripts.old + length (lines_of bytes.now) < 2 ^ 32 }
     ensures lines { OnOk result (AddsLines (lines_of bytes.now) rank thread scripts.old scripts.new) }
@@ -211,7 +212,7 @@ pub(crate) fn add_script(
 /// Adds what a line without a fault spells.
 fn add_line(scripts: &mut Scripts, rank: u16, thread: u8, line: &[u8]) -> Result<(), OutOfMemory>
     requires rank { rank < scripts.old.ranks }
-    requires thread { thread < 8 }
+    requires thread { thread < THREADS }
     requires good { line_fault_of line.now ≡ None }
     requires room { total_of scripts.old + 1 < 2 ^ 32 }
     ensures line { OnOk result (AddsLines (line.now ∷ []) rank thread scripts.old scripts.new) }
@@ -232,7 +233,7 @@ fn add_line(scripts: &mut Scripts, rank: u16, thread: u8, line: &[u8]) -> Result
 /// Adds the scripts of a table without a fault.
 fn add_scripts(scripts: &mut Scripts, ranks: u16, table: &Table) -> Result<(), OutOfMemory>
     requires ranks { ranks ≤ MOST_RANKS }
-    requires none { scripts.old ≡ record { ranks = ranks; lists = replicate (8 * ranks) [] } }
+    requires none { scripts.old ≡ record { ranks = ranks; lists = replicate (THREADS * ranks) [] } }
     requires good { spec.scripts_fault ranks (table_view table.now) ≡ None }
     ensures { OnOk result (AreScripts ranks (spec.script_at (table_view table.now)) scripts.new) }
 {

@@ -201,33 +201,60 @@ fn a_job_is_read(rt: HostRuntime) -> Result<(), Fail> {
 
 #[test]
 fn a_script_of_one_rank_is_read(rt: HostRuntime) -> Result<(), Fail> {
+    let lines = [
+        "session s",
+        "pset s mpi://WORLD -> g",
+        "create g \"a\" -> c",
+    ];
     let script =
         b"# a script\n session   s\r\n\n  # blank\npset s mpi://WORLD ->  g \ncreate g \"a\" -> c";
     let job = read_solo(rt.alloc(), script)?;
+    let psets = job.setting.psets.size();
     assert_eq!(rt;
-        (
-            job.setting.ranks,
-            job.setting.contexts,
-            job.setting.psets.size()
-        ),
+        (job.setting.ranks, job.setting.contexts, psets),
         (1, 63, 2)
     );
     assert_eq!(rt; (job.scripts.len(0, 0), job.scripts.total()), (3, 3));
+    for (place, line) in lines.iter().enumerate() {
+        let op = job.scripts.op(0, 0, place as u32).copy();
+        assert!(rt; read_line(line.as_bytes()) == Ok(op));
+    }
+    Ok(())
+}
+
+#[test]
+fn a_script_of_one_rank_has_its_fault(rt: HostRuntime) -> Result<(), Fail> {
     for (script, said) in [
         (
             "session s\ndup c > d",
             "rank 0, thread 0, line 2, column 7: unknown word",
         ),
         (
-            "session s\nwait q\nsess",
-            "rank 0, thread 0, line 3, column 1: unknown word",
+            "session s\nsend c 0 1 -\ndup c ->",
+            "rank 0, thread 0, line 3, column 9: the line ends where one more word is wanted",
         ),
         (
-            "session s\nwait q",
+            "\n# send\nsend c 0 1 0g",
+            "rank 0, thread 0, line 3, column 12: an even number of hexadecimal digits, or - for no bytes, is wanted",
+        ),
+        (
+            "session s\r\r\n",
+            "rank 0, thread 0, line 1, column 9: a name, a process set or a string is wanted",
+        ),
+        (
+            "session s\nsend c 0 1 -\nwait q",
             "rank 0, thread 0, line 2: this operation is not built yet",
         ),
     ] {
         assert_eq!(rt; solo_told(rt.alloc(), script.as_bytes())?.as_str(), said);
     }
+    let long = "rank 0, thread 0: the script has more than 4,096 lines";
+    let mut script = Vec::new(rt.alloc());
+    for _ in 0..4_096 {
+        script.extend_from_slice(b"session s\n")?;
+    }
+    assert_eq!(rt; read_solo(rt.alloc(), &script)?.scripts.len(0, 0), 4_096);
+    script.push(b'\n')?;
+    assert_eq!(rt; solo_told(rt.alloc(), &script)?.as_str(), long);
     Ok(())
 }

@@ -1,14 +1,14 @@
 -- What a change of one queue is to the links.
-use Rattle.std.proofs.Common.{◌≡◌, ◌≢◌, ◌≤◌, inl, inr, length-set, ℕ, ◌+◌, ◌-◌, ◌*◌, ◌<◌, List, [], ◌∷◌, ◌++◌, length, map, get_or, set, Result, Ok, Err, OnOk, refl, sym, ap, subst, ◌∙◌, arith}
+use Rattle.std.proofs.Common.{◌≡◌, ◌≤◌, inl, inr, length-set, ℕ, ◌+◌, ◌-◌, ◌*◌, ◌<◌, List, [], ◌∷◌, ◌++◌, length, map, get_or, set, Option, Some, None, option_to_list, Result, Ok, Err, OnOk, refl, sym, ap, subst, ◌∙◌, arith}
 use Rattle.std.proofs.lemmas.Bool.{cases_eq}
 use Rattle.std.proofs.lemmas.List.{get_or-map, get_or-set_same, get_or-set_other, length-map, map-set, set-get_or}
 use Rattle.std.proofs.Math.Seq.{map-set_same}
-use Rattle.std.specs.List.{sum_by}
+use Rattle.std.specs.Option.{MatchOption}
 use Rattle.std.specs.declared.collections.VecDeque.{VecDeque}
 use Rattle.std.specs.VecDeque.{deque_items, deque_len, deque_capacity}
-use Rattle.link_net.specs.Net.{link, room, with_link, pushed, popped, in_flight, IsNet}
+use Rattle.link_net.specs.Net.{link, room, with_link, pushed, popped, IsNet}
 use Rattle.link_net.specs.Queues.{net_of, room_of}
-use Rattle.link_net.proofs.NetFacts.{IsNet-pushed, in_flight-pushed, IsNet-popped, in_flight-popped, in_flight-popped_none}
+use Rattle.link_net.proofs.NetFacts.{IsNet-pushed, IsNet-popped}
 
 nothing : {T : Type 0} (items : List T) → length items ≡ 0 → items ≡ []
 nothing [] none = refl
@@ -92,39 +92,28 @@ module _ {T A : Type 0} (ranks : ℕ) (queues : List (VecDeque T A)) (from to : 
             rw (map-set room_of queues place new) (omega (arith, get_or-set_other (map room_of queues) place other (room_of new) 0 apart))
       ]
 
-      pub kept_roomy : (count : ℕ) → in_flight (net_of ranks queues) ≡ count
-          → IsNet (net_of ranks (set queues place new)) × (in_flight (net_of ranks (set queues place new)) ≡ count)
-      kept_roomy count counted = (
-        record {
-          links = ap length same_links ∙ is.links;
-          rooms = same_rooms ∙ is.rooms;
-          apart = λ rank r. ap (λ links. get_or links (ranks * rank + rank) []) same_links ∙ is.apart rank r;
-        },
-        ap (λ links. sum_by length links) same_links ∙ counted,
-      )
+      pub kept_roomy : IsNet (net_of ranks (set queues place new))
+      kept_roomy = record {
+        links = ap length same_links ∙ is.links;
+        rooms = same_rooms ∙ is.rooms;
+      }
 
-    -- what the links keep, and how many items there are
-    module _ (f : from < ranks) (t : to < ranks) (count : ℕ) (counted : in_flight (net_of ranks queues) ≡ count) where
-      pub kept_pushed : (item : T) → from ≢ to → deque_items new ≡ deque_items old ++ item ∷ [] → deque_len new ≡ deque_len old + 1 → deque_capacity new ≡ deque_capacity old
-          → IsNet (net_of ranks (set queues place new)) × (in_flight (net_of ranks (set queues place new)) ≡ count + 1)
-      kept_pushed item apart items len capacity =
-          subst (λ n. IsNet n × (in_flight n ≡ count + 1)) (sym (pushed_queue item items len capacity))
-          (IsNet-pushed (net_of ranks queues) from to is f t item apart, in_flight-pushed (net_of ranks queues) from to is f t item ∙ ap (λ k. k + 1) counted)
+    -- the first item taken off, where there is one
+    pub popped_queue : (taken : Option T) → deque_items old ≡ option_to_list taken ++ deque_items new
+        → MatchOption taken ((deque_len old ≡ 0) × (deque_len new ≡ 0)) (λ _. deque_len new + 1 ≡ deque_len old) → deque_capacity new ≡ deque_capacity old
+        → net_of ranks (set queues place new) ≡ popped (net_of ranks queues) from to
+    popped_queue None items cases capacity = popped_none items cases.0 cases.1 capacity
+    popped_queue (Some item) items cases capacity = popped_some item items cases capacity
 
-      pub kept_none : deque_items old ≡ deque_items new → deque_len old ≡ 0 → deque_len new ≡ 0 → deque_capacity new ≡ deque_capacity old
-          → IsNet (net_of ranks (set queues place new)) × (in_flight (net_of ranks (set queues place new)) ≡ count)
-      kept_none items old_len new_len capacity =
-          let ok = old.ok in
-          let none = nothing (deque_items old) (omega (arith, old_len)) in
-          subst (λ n. IsNet n × (in_flight n ≡ count)) (sym (popped_none items old_len new_len capacity))
-          (IsNet-popped (net_of ranks queues) from to is f t, in_flight-popped_none (net_of ranks queues) from to is f t (link_was ∙ none) ∙ counted)
+    -- what the links keep
+    module _ (f : from < ranks) (t : to < ranks) where
+      pub kept_pushed : (item : T) → deque_items new ≡ deque_items old ++ item ∷ [] → deque_len new ≡ deque_len old + 1 → deque_capacity new ≡ deque_capacity old
+          → IsNet (net_of ranks (set queues place new))
+      kept_pushed item items len capacity =
+          subst (λ n. IsNet n) (sym (pushed_queue item items len capacity)) (IsNet-pushed (net_of ranks queues) from to is f t item)
 
-      -- where something is popped there was one
-      pub one_more : (item : T) → deque_items old ≡ item ∷ deque_items new → in_flight (popped (net_of ranks queues) from to) + 1 ≡ count
-      one_more item items = in_flight-popped (net_of ranks queues) from to is f t item (deque_items new) (link_was ∙ items) ∙ counted
-
-      pub kept_some : (item : T) → deque_items old ≡ item ∷ deque_items new → deque_len new + 1 ≡ deque_len old → deque_capacity new ≡ deque_capacity old
-          → IsNet (net_of ranks (set queues place new)) × (in_flight (net_of ranks (set queues place new)) ≡ count - 1)
-      kept_some item items len capacity =
-          subst (λ n. IsNet n × (in_flight n ≡ count - 1)) (sym (popped_some item items len capacity))
-          (IsNet-popped (net_of ranks queues) from to is f t, omega (arith, one_more item items))
+      pub kept_popped : (taken : Option T) → deque_items old ≡ option_to_list taken ++ deque_items new
+          → MatchOption taken ((deque_len old ≡ 0) × (deque_len new ≡ 0)) (λ _. deque_len new + 1 ≡ deque_len old) → deque_capacity new ≡ deque_capacity old
+          → IsNet (net_of ranks (set queues place new))
+      kept_popped taken items cases capacity =
+          subst (λ n. IsNet n) (sym (popped_queue taken items cases capacity)) (IsNet-popped (net_of ranks queues) from to is f t)

@@ -1,5 +1,5 @@
 -- The links between the ranks of a job, as contracts see them. This project's own.
-use Rattle.std.specs.Prelude.{◌≡◌, ◌≢◌, ℕ, ◌+◌, ◌-◌, ◌*◌, ◌<◌, ◌≤◌, List, [], ◌∷◌, ◌++◌, length, map, get_or, set, refl}
+use Rattle.std.specs.Prelude.{◌≡◌, ℕ, ◌+◌, ◌-◌, ◌*◌, ◌<◌, ◌≤◌, List, [], ◌∷◌, ◌++◌, length, map, get_or, set, refl}
 use Rattle.std.specs.List.{sum_by}
 use Rattle.std.specs.Coded.{Coded, code_by, coded×, coded_ℕ, coded_list}
 
@@ -55,15 +55,14 @@ seen f n = record { ranks = n.ranks; links = map (map f) n.links; rooms = n.room
 
 -- Facts
 
--- there is a place for each pair of ranks, and nothing on a link of a rank to itself
+-- there is a place for each pair of ranks, and so for a rank and itself
 pub record IsNet {T : Type 0} (n : Net T) : Type 0 where
   pub links : length n.links ≡ n.ranks * n.ranks
   pub rooms : length n.rooms ≡ n.ranks * n.ranks
-  pub apart : (rank : ℕ) → rank < n.ranks → link n rank rank ≡ []
 
 -- each link of a rank has room for this many more
 abbrev pub HasRoom : {T : Type 0} → Net T → ℕ → ℕ → Type 0
-HasRoom n from more = (to : ℕ) → to < n.ranks → to ≢ from → more ≤ room n from to
+HasRoom n from more = (to : ℕ) → to < n.ranks → more ≤ room n from to
 
 -- no link has less room than before
 abbrev pub KeepsRoom : {T : Type 0} → Net T → Net T → Type 0

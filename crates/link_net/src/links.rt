@@ -1,5 +1,5 @@
 //! Queues between ranks.
-ghost use Rattle.std.specs.Prelude.{◌≡◌, ◌≢◌, ◌+◌, ◌-◌, ◌*◌, ◌^◌, ◌<◌, ◌≤◌, [], map, replicate, slice_get, IfOk, OnOk};
+ghost use Rattle.std.specs.Prelude.{◌≡◌, ◌+◌, ◌-◌, ◌*◌, ◌^◌, ◌<◌, ◌≤◌, [], map, min, replicate, slice_get, IfOk, OnOk};
 ghost use Rattle.std.specs.Option.{option_copied};
 ghost use Rattle.std.specs.VecDeque.{deque_items};
 ghost use Rattle.link_net.specs.Net.{link, room, in_flight, pushed, popped, IsNet, HasRoom, KeepsRoom};
@@ -9,18 +9,16 @@ use std::alloc::{AllocError, Global};
 use std::collections::VecDeque;
 use std::marker::Model;
 
-/// The links between the ranks of a job, one from each rank to each other one. What is pushed first
+/// The links between the ranks of a job, one from each rank to each, itself too. What is pushed first
 /// is popped first. A push takes no memory: [`Links::reserve`] makes the room for it.
 #[derive(Drop)]
 pub struct Links<T> {
     ranks: u16,
     queues: Vec<VecDeque<T>>,
-    count: u64,
 }
 
 impl<T> Model for Links<T> {
-    ghost use Rattle.std.specs.Prelude.{◌≡◌};
-    ghost use Rattle.link_net.specs.Net.{Net, IsNet, net_code, in_flight};
+    ghost use Rattle.link_net.specs.Net.{Net, IsNet, net_code};
     ghost use Rattle.link_net.specs.Queues.{net_of};
 
     ghost Value = { Net T };
@@ -29,7 +27,7 @@ impl<T> Model for Links<T> {
 
     ghost view = { λ s. net_of s.ranks s.queues.items };
 
-    ghost invariant = { λ s. IsNet (net_of s.ranks s.queues.items) × (in_flight (net_of s.ranks s.queues.items) ≡ s.count) };
+    ghost invariant = { λ s. IsNet (net_of s.ranks s.queues.items) };
 }
 
 /// Where the queue of a link stands.
@@ -60,40 +58,34 @@ impl<T> Links<T> {
         ensures links { IfOk result (λ net. net.links ≡ replicate (ranks * ranks) []) }
     {
         let queues = empty_queues(alloc, ranks as usize * ranks as usize)?;
-        Ok(Links {
-            ranks,
-            queues,
-            count: 0,
-        })
+        Ok(Links { ranks, queues })
     }
 
-    /// Makes room for two more on each link of a rank. What is on the links stays, and no link loses
+    /// Makes room for so many more on each link of a rank. What is on the links stays, and no link loses
     /// room, whatever it answers.
-    pub fn reserve(&mut self, from: u16) -> Result<(), OutOfMemory>
+    pub fn reserve(&mut self, from: u16, more: usize) -> Result<(), OutOfMemory>
         requires from { from < self.old.ranks }
-        ensures ok { OnOk result (HasRoom self.new from 2) }
+        ensures ok { OnOk result (HasRoom self.new from more) }
         ensures ranks { self.new.ranks ≡ self.old.ranks }
         ensures links { self.new.links ≡ self.old.links }
         ensures room { KeepsRoom self.old self.new }
     {
         for to in 0..self.ranks {
-            if to != from {
-                self.make_room(from, to)?;
-            }
+            self.make_room(from, to, more)?;
         }
         Ok(())
     }
 
-    /// Makes room for two more on one link.
-    fn make_room(&mut self, from: u16, to: u16) -> Result<(), AllocError>
+    /// Makes room for so many more on one link.
+    fn make_room(&mut self, from: u16, to: u16, more: usize) -> Result<(), AllocError>
         requires from { from < self.old.ranks }
         requires to { to < self.old.ranks }
-        ensures ok { OnOk result (2 ≤ room self.new from to) }
+        ensures ok { OnOk result (more ≤ room self.new from to) }
         ensures ranks { self.new.ranks ≡ self.old.ranks }
         ensures links { self.new.links ≡ self.old.links }
         ensures room { KeepsRoom self.old self.new }
     {
-        self.queues[place_of(self.ranks, from, to)].reserve(2)
+        self.queues[place_of(self.ranks, from, to)].reserve(more)
     }
 
     /// The first item on a link; None exactly where there is none.
@@ -113,30 +105,28 @@ impl<T> Links<T> {
         ensures value { result ≡ slice_get (link self.old from to) 0 }
         ensures after { self.new ≡ popped self.old from to }
     {
-        let item = self.queues[place_of(self.ranks, from, to)].pop_front()?;
-        self.count -= 1;
-        Some(item)
+        self.queues[place_of(self.ranks, from, to)].pop_front()
     }
 
-    /// Puts an item at the end of a link, which has room for it, and takes one of that room. There are
-    /// fewer items on all links than the greatest `u64`.
+    /// Puts an item at the end of a link, which has room for it, and takes one of that room.
     pub fn push(&mut self, from: u16, to: u16, item: T)
         requires from { from < self.old.ranks }
         requires to { to < self.old.ranks }
-        requires apart { from ≢ to }
         requires room { 1 ≤ room self.old from to }
-        requires count { in_flight self.old < 2 ^ 64 - 1 }
         ensures after { self.new ≡ pushed self.old from to item }
     {
         self.queues[place_of(self.ranks, from, to)].push_back_reserved(item);
-        self.count += 1;
     }
 
-    /// How many items there are on all links.
+    /// How many items there are on all links, at most the greatest `u64`.
     pub fn in_flight(&self) -> u64
-        ensures value { result ≡ in_flight self.now }
+        ensures value { result ≡ min (in_flight self.now) (2 ^ 64 - 1) }
         ensures form { IsNet self.now }
     {
-        self.count
+        let mut count: u64 = 0;
+        for queue in self.queues.iter() {
+            count = count.saturating_add(queue.len() as u64);
+        }
+        count
     }
 }

@@ -30,11 +30,13 @@ fn is_popped(rt: &impl Abort, links: &mut Links<Msg>, from: u16, to: u16, number
 #[test]
 fn what_is_pushed_first_is_popped_first(rt: HostRuntime) {
     let mut links = Links::start(rt.alloc(), 3).expect(&rt, "memory");
-    links.reserve(0).expect(&rt, "memory");
+    links.reserve(0, 2).expect(&rt, "memory");
     links.push(0, 1, message(&rt, 1));
     links.push(0, 1, message(&rt, 2));
     links.push(0, 2, message(&rt, 3));
-    assert_eq!(rt; links.in_flight(), 3);
+    links.push(0, 0, message(&rt, 4));
+    assert_eq!(rt; links.in_flight(), 4);
+    is_popped(&rt, &mut links, 0, 0, Some(4));
     is_popped(&rt, &mut links, 0, 1, Some(1));
     is_popped(&rt, &mut links, 1, 0, None);
     is_popped(&rt, &mut links, 0, 2, Some(3));

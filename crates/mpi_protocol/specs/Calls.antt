@@ -7,6 +7,7 @@ use Rattle.mpi_base.specs.declared.messages.Msg.{Msg}
 use Rattle.mpi_base.specs.declared.ops.Op.{Op}
 use Rattle.mpi_base.specs.declared.replies.Reply.{Reply}
 use Rattle.mpi_base.specs.declared.replies.Reply.TheVariants as reply
+use Rattle.mpi_base.specs.Keys.{same_key}
 use Rattle.mpi_law.specs.Local.{effect_of}
 use Rattle.mpi_law.specs.Local.Objects.{Local}
 use Rattle.mpi_law.specs.declared.effects.TheConstants.{MESSAGE_LANE}
@@ -26,8 +27,9 @@ use Rattle.comm_law.specs.Comms.{Comms, comm_at, count_call, mark_free, free_ses
 use Rattle.match_law.specs.declared.rows.Posted.{Posted}
 use Rattle.mpi_protocol.specs.declared.rows.Waits.{Waits}
 use Rattle.mpi_protocol.specs.declared.rows.Waits.TheVariants.{Nothing, Creation, Freeing, Ending, Receiving, Awaiting}
+use Rattle.mpi_protocol.specs.declared.rows.ThreadRow.{ThreadRow}
 use Rattle.mpi_protocol.specs.Packets.{Message, Sent, agreeing}
-use Rattle.mpi_protocol.specs.Rank.{Rank, with_call, is_open_here, has_open_of, with_receive}
+use Rattle.mpi_protocol.specs.Rank.{Rank, with_call, has_open, with_receive}
 use Rattle.mpi_protocol.specs.Moves.{Move, moves, Taking, arrives, posts}
 
 -- Keys
@@ -50,14 +52,17 @@ key_of comms (Duplicated c) = key_on comms c kind.Dup
 key_of comms (Divided c share) = key_on comms c kind.Share
 key_of comms (GroupedOn c tag group) = key_under c tag group
 
--- what a call looks at besides the rank's own objects
-abbrev pub around_here : Rank → Around
-around_here x =
+-- what a call looks at besides the rank's own objects: the communicators and the threads of the rank
+abbrev pub around_of : Comms → List ThreadRow → Around
+around_of comms threads =
     record {
-      members = λ c. (comm_at x.comms c).members;
-      busy = λ origin. is_open_here x (key_of x.comms origin);
-      engaged = has_open_of x;
+      members = λ c. (comm_at comms c).members;
+      busy = λ origin. has_open threads (λ k session. same_key k (key_of comms origin));
+      engaged = λ s. has_open threads (λ k session. session == s);
     }
+
+abbrev pub around_here : Rank → Around
+around_here x = around_of x.comms x.threads
 
 -- Creations
 

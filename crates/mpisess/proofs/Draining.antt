@@ -22,7 +22,8 @@ use Rattle.solo_law.proofs.Goes.{run_on, end_on, drained_on}
 use Rattle.solo_law.proofs.Solos.{steps_fall}
 use Rattle.solo_law.proofs.Runs.{run_sees}
 use Rattle.solo_law.proofs.Sole.{solo_alone}
-use Rattle.mpisess.specs.Job.{solo_setting, IsSoloJob, IsDrainedRun}
+use Rattle.job_file.specs.Solo.{solo_setting}
+use Rattle.mpisess.specs.Job.{IsSoloJob, IsDrainedRun}
 
 -- the journal is that of a drained run, which ends in this state, and there are no more entries than the script allows
 pub record Draining (scripts : AllScripts) (x : Rank) (journal : List Entry) : Type 0 where

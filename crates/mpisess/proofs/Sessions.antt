@@ -1,5 +1,5 @@
 -- What was read, and what was run of it.
-use Rattle.std.proofs.Common.{◌≡◌, ℕ, zero, suc, ◌+◌, ◌<◌, ◌≤◌, Bool, true, false, List, [], ◌⊎◌, length, get_or, take, Option, Some, Result, Err, refl, sym, ap, ◌∙◌, subst, inl, inr, arith, min}
+use Rattle.std.proofs.Common.{◌≡◌, ℕ, zero, suc, ◌+◌, ◌<◌, ◌≤◌, Bool, true, false, List, [], ◌∷◌, ◌⊎◌, ⊎_elim, length, get_or, take, Option, Some, Result, Err, refl, sym, ap, ◌∙◌, subst, inl, inr, arith, min}
 use Rattle.std.proofs.lemmas.List.{take_all, length-take}
 use Rattle.std.specs.Result.{IsErrAnd}
 use Rattle.mpi_base.specs.declared.entries.Entry.{Entry}
@@ -10,19 +10,17 @@ use Rattle.mpi_law.specs.ScriptLists.{AllScripts, script_of}
 use Rattle.solo_protocol.specs.World.{opening}
 use Rattle.solo_protocol.specs.Run.{end_of, events_of, calls_of}
 use Rattle.solo_protocol.specs.Order.{IsDrained, IsQuiet}
+use Rattle.job_file.specs.declared.faults.JobFault.{JobFault}
+use Rattle.job_file.specs.declared.faults.JobFault.TheVariants as job
+use Rattle.job_file.specs.Lines.{lines_of, body_of, is_blank, SpellsFirst, Spell}
+use Rattle.job_file.specs.Solo.{solo_setting, solo_of, IsSoloScript, IsSoloFault}
 use Rattle.mpisess.specs.Input.{ReadsFront, ReadsAll, ReadsWhole, TellsLong}
-use Rattle.mpisess.specs.Script.{lines_of, IsSoloScript, IsFault}
-use Rattle.mpisess.specs.Solo.{solo_of}
 use Rattle.mpisess.specs.declared.session.Status.{Status}
 use Rattle.mpisess.specs.declared.session.Status.TheVariants.{Fine, WriteFault, TooLong, Memory}
 use Rattle.mpisess.specs.declared.session.Stop.{Stop}
 use Rattle.mpisess.specs.declared.session.Stop.TheVariants as stop
-use Rattle.mpisess.specs.declared.faults.JobFault.{JobFault}
-use Rattle.mpisess.specs.declared.faults.ScriptError.{ScriptError}
-use Rattle.mpisess.specs.declared.faults.ScriptError.TheVariants as script
-use Rattle.mpisess.specs.Job.{solo_setting, IsSoloJob, IsDrainedRun}
-use Rattle.mpisess.specs.Session.{stop_status, stop_fault, stop_of_script, TellsScript, TellsFault, called_scripts, IsSoloRun}
-use Rattle.mpisess.proofs.Spelled.{spell_few}
+use Rattle.mpisess.specs.Job.{IsSoloJob, IsDrainedRun}
+use Rattle.mpisess.specs.Session.{stop_status, stop_fault, stop_of_job, TellsScript, TellsFault, called_scripts, IsSoloRun}
 
 -- of an input that is not too long all was read
 whole : (most : ℕ) (xs bytes : List ℕ) → bytes ≡ take most xs → length xs < most → bytes ≡ xs
@@ -46,8 +44,8 @@ pub tells_long : (before after : Option (List ℕ)) (bytes : List ℕ) → Reads
 tells_long before after bytes r many = record { long = λ xs e. (let m : length bytes ≡ min 4194305 (length xs) = ap length (r xs e).0 ∙ length-take 4194305 xs in omega (arith, m, many)) }
 
 -- what is wrong with what was read is wrong with the input
-pub tells_fault : (before : Option (List ℕ)) (bytes seen : List ℕ) (fault : JobFault) → ReadsWhole before bytes → seen ≡ bytes → IsFault seen fault → TellsFault before fault
-tells_fault before bytes seen fault r same f = record { told = λ xs e. subst (λ (ys : List ℕ). IsFault ys fault) (same ∙ (r xs e).0) f; short = λ xs e. (r xs e).1 }
+pub tells_fault : (before : Option (List ℕ)) (bytes seen : List ℕ) (fault : JobFault) → ReadsWhole before bytes → seen ≡ bytes → IsSoloFault seen fault → TellsFault before fault
+tells_fault before bytes seen fault r same f = record { told = λ xs e. subst (λ (ys : List ℕ). IsSoloFault ys fault) (same ∙ (r xs e).0) f; short = λ xs e. (r xs e).1 }
 
 -- the input is this script where what was read is it
 pub tells_script : (before : Option (List ℕ)) (bytes seen : List ℕ) (ops calls : List Op) → ReadsWhole before bytes → seen ≡ bytes → IsSoloScript seen ops → calls ≡ ops → TellsScript before calls
@@ -55,6 +53,17 @@ tells_script before bytes seen ops calls r same script called = record {
   script = λ xs e. rw called (subst (λ (ys : List ℕ). IsSoloScript ys ops) (same ∙ (r xs e).0) script);
   short = λ xs e. (r xs e).1;
 }
+
+-- there are no more operations than lines
+spell_few : (a : List (List ℕ)) (xs : List Op) → Spell a xs → length xs ≤ length a
+spell_few [] [] p = omega arith
+spell_few [] (x ∷ xs) p = absurd p
+spell_few (line ∷ a) xs p = go (is_blank line) xs p (λ zs h. spell_few a zs h)
+  where
+    go : (t : Bool) (xs : List Op) → SpellsFirst t (body_of line) (Spell a) xs → ((zs : List Op) → Spell a zs → length zs ≤ length a) → length xs ≤ length (line ∷ a)
+    go true xs p more = let l = more xs p in omega (arith, l)
+    go false [] p more = absurd p
+    go false (x ∷ xs) p more = let l = more xs p.2 in omega (arith, l)
 
 -- thread 0 alone has a script
 no_other : (ops : List Op) (t : ℕ) → 1 ≤ t → get_or (solo_of ops).lists t [] ≡ []
@@ -99,18 +108,39 @@ abbrev pub is_write_fault : Status → Bool
 is_write_fault WriteFault = true
 is_write_fault _ = false
 
--- a session that stops for a fault of the job was stopped by the script
-script_fault : (e : ScriptError) (fault : JobFault) → stop.BadJob fault ≡ stop_of_script e → e ≡ script.Fault fault
-script_fault (script.Fault f) fault h = let same : fault ≡ f = cc (h) in ap script.Fault (sym same)
-script_fault script.Memory fault h = absurd (cc (h))
+-- a session that stops for a fault of the job was stopped by that fault
+told_fault : (f fault : JobFault) → stop.BadJob fault ≡ stop_of_job f → f ≡ fault
+told_fault (job.NotUtf8 line column) fault h = cc (h)
+told_fault (job.NotToml line column) fault h = cc (h)
+told_fault (job.UnknownKey key) fault h = cc (h)
+told_fault (job.Missing key) fault h = cc (h)
+told_fault (job.WrongKind key entry) fault h = cc (h)
+told_fault (job.OutOfRange key least greatest) fault h = cc (h)
+told_fault (job.PsetMember name) fault h = cc (h)
+told_fault (job.ScriptName key) fault h = cc (h)
+told_fault (job.ScriptLong rank thread) fault h = cc (h)
+told_fault (job.Line rank thread line fault) told h = cc (h)
+told_fault (job.NotBuilt rank thread line) fault h = cc (h)
+told_fault job.TooManyOps fault h = cc (h)
+told_fault job.Memory fault h = absurd (cc (h))
 
-pub stopped_by : {A : Type 0} (r : Result A Stop) (e : ScriptError) (fault : JobFault) → r ≡ Err (stop.BadJob fault) → IsErrAnd r (λ s. s ≡ stop_of_script e) → e ≡ script.Fault fault
-stopped_by r e fault bad holds = script_fault e fault (subst (λ (s : Result _ Stop). IsErrAnd s (λ s. s ≡ stop_of_script e)) bad holds)
+stopped_by : {A : Type 0} (r : Result A Stop) (f fault : JobFault) → r ≡ Err (stop.BadJob fault) → IsErrAnd r (λ s. s ≡ stop_of_job f) → f ≡ fault
+stopped_by r f fault bad holds = told_fault f fault (subst (λ (s : Result _ Stop). IsErrAnd s (λ s. s ≡ stop_of_job f)) bad holds)
+
+-- and that fault is what is wrong with the script, since want of memory is no fault of the job
+pub stopped_well : {A : Type 0} (r : Result A Stop) (bytes : List ℕ) (f fault : JobFault) → r ≡ Err (stop.BadJob fault) → IsErrAnd r (λ s. s ≡ stop_of_job f) → (f ≡ job.Memory) ⊎ IsSoloFault bytes f → IsSoloFault bytes fault
+stopped_well r bytes f fault bad holds known = ⊎_elim memory told known
+  where
+    memory : f ≡ job.Memory → IsSoloFault bytes fault
+    memory e = let none : stop.BadJob fault ≡ stop.Memory = subst (λ (s : Result _ Stop). IsErrAnd s (λ s. s ≡ stop_of_job job.Memory)) bad (subst (λ (g : JobFault). IsErrAnd r (λ s. s ≡ stop_of_job g)) e holds) in absurd (cc (none))
+
+    told : IsSoloFault bytes f → IsSoloFault bytes fault
+    told h = subst (IsSoloFault bytes) (stopped_by r f fault bad holds) h
 
 -- What stopped a session, where the source tells its bytes and did not fail
 
 module _ (before : Option (List ℕ)) (bytes : List ℕ) (is : before ≡ Some bytes) (why : Stop) (calm : why ≡ stop.ReadFault → ⊥) (long : why ≡ stop.TooLong → TellsLong before) (bad : (fault : JobFault) → why ≡ stop.BadJob fault → TellsFault before fault) where
-  pub stops_script : (ops : List Op) → length bytes ≤ 4194304 → ((fault : JobFault) → IsFault bytes fault → ⊥) → (stop_status why ≡ Fine) ⊎ (stop_status why ≡ Memory)
+  pub stops_script : (ops : List Op) → length bytes ≤ 4194304 → ((fault : JobFault) → IsSoloFault bytes fault → ⊥) → (stop_status why ≡ Fine) ⊎ (stop_status why ≡ Memory)
   stops_script ops few none = go why refl
     where
       go : (w : Stop) → why ≡ w → (stop_status w ≡ Fine) ⊎ (stop_status w ≡ Memory)
@@ -119,7 +149,7 @@ module _ (before : Option (List ℕ)) (bytes : List ℕ) (is : before ≡ Some b
       go (stop.BadJob fault) e = absurd (none fault ((bad fault e).told bytes is))
       go stop.Memory e = inr refl
 
-  pub stops_fault : (fault : JobFault) → length bytes ≤ 4194304 → ((other : JobFault) → IsFault bytes other → other ≡ fault) → (stop_fault why ≡ Some fault) ⊎ (stop_status why ≡ Memory)
+  pub stops_fault : (fault : JobFault) → length bytes ≤ 4194304 → ((other : JobFault) → IsSoloFault bytes other → other ≡ fault) → (stop_fault why ≡ Some fault) ⊎ (stop_status why ≡ Memory)
   stops_fault fault few one = go why refl
     where
       go : (w : Stop) → why ≡ w → (stop_fault w ≡ Some fault) ⊎ (stop_status w ≡ Memory)

@@ -2,19 +2,13 @@
 use Rattle.std.specs.Prelude.{◌≡◌, ◌≤◌, true, List, length}
 use Rattle.std.specs.List.{AllByRecursion}
 use Rattle.mpi_base.specs.declared.entries.Entry.{Entry}
-use Rattle.mpi_law.specs.declared.setting.Setting.{Setting}
-use Rattle.mpi_law.specs.declared.setting.TheConstants.{MOST_CONTEXTS}
-use Rattle.pset_reg.specs.Sets.{start_of}
 use Rattle.mpi_law.specs.ScriptLists.{AllScripts, script_of}
 use Rattle.solo_registry.specs.Built.{is_built}
 use Rattle.solo_protocol.specs.World.{opening}
 use Rattle.solo_protocol.specs.Run.{IsProtocolRun}
 use Rattle.solo_protocol.specs.Order.{IsDrained}
 use Rattle.solo_law.specs.Solo.{IsSolo}
-
--- one rank, the contexts from 1 to 63, and the two process sets that are always there
-abbrev pub solo_setting : Setting
-solo_setting = record { ranks = 1; contexts = MOST_CONTEXTS; psets = start_of 1 }
+use Rattle.job_file.specs.Solo.{solo_setting}
 
 -- the scripts of a job with one rank, of which thread 0 alone has one, at most 4,096 operations that may be called yet
 pub record IsSoloJob (scripts : AllScripts) : Type 0 where

@@ -9,18 +9,15 @@ use Rattle.solo_registry.specs.Registry.{Registry, IsRegistryRun, registry_openi
 use Rattle.solo_protocol.specs.World.{opening}
 use Rattle.solo_protocol.specs.Run.{IsProtocolRun, end_of, events_of, calls_of}
 use Rattle.solo_protocol.specs.Order.{IsDrained, IsQuiet}
+use Rattle.job_file.specs.declared.faults.JobFault.{JobFault}
+use Rattle.job_file.specs.declared.faults.JobFault.TheVariants as job
+use Rattle.job_file.specs.Solo.{solo_setting, solo_of, IsSoloScript, IsSoloFault}
 use Rattle.mpisess.specs.declared.session.Status.{Status}
 use Rattle.mpisess.specs.declared.session.Status.TheVariants.{Fine, Usage, BadJob, ReadFault, WriteFault, TooLong, Memory}
 use Rattle.mpisess.specs.declared.session.Stop.{Stop}
 use Rattle.mpisess.specs.declared.session.Stop.TheVariants as stop
-use Rattle.mpisess.specs.declared.faults.JobFault.{JobFault}
 use Rattle.mpisess.specs.declared.input.InputError.{InputError}
 use Rattle.mpisess.specs.declared.input.InputError.TheVariants as input
-use Rattle.mpisess.specs.declared.faults.ScriptError.{ScriptError}
-use Rattle.mpisess.specs.declared.faults.ScriptError.TheVariants as script
-use Rattle.mpisess.specs.Job.{solo_setting}
-use Rattle.mpisess.specs.Script.{IsSoloScript, IsFault}
-use Rattle.mpisess.specs.Solo.{solo_of}
 
 -- the words of the command line are the one word solo
 abbrev pub is_solo_command : List (String Global) → Bool
@@ -75,15 +72,26 @@ abbrev pub stop_fault : Stop → Option JobFault
 stop_fault (stop.BadJob fault) = Some fault
 stop_fault _ = None
 
--- why a session stops where the input, or the script, was not read
+-- why a session stops where the input, or the job, was not read
 abbrev pub stop_of_input : InputError → Stop
 stop_of_input input.Fault = stop.ReadFault
 stop_of_input input.TooLong = stop.TooLong
 stop_of_input input.Memory = stop.Memory
 
-abbrev pub stop_of_script : ScriptError → Stop
-stop_of_script (script.Fault fault) = stop.BadJob fault
-stop_of_script script.Memory = stop.Memory
+abbrev pub stop_of_job : JobFault → Stop
+stop_of_job (job.NotUtf8 line column) = stop.BadJob (job.NotUtf8 line column)
+stop_of_job (job.NotToml line column) = stop.BadJob (job.NotToml line column)
+stop_of_job (job.UnknownKey key) = stop.BadJob (job.UnknownKey key)
+stop_of_job (job.Missing key) = stop.BadJob (job.Missing key)
+stop_of_job (job.WrongKind key entry) = stop.BadJob (job.WrongKind key entry)
+stop_of_job (job.OutOfRange key least greatest) = stop.BadJob (job.OutOfRange key least greatest)
+stop_of_job (job.PsetMember name) = stop.BadJob (job.PsetMember name)
+stop_of_job (job.ScriptName key) = stop.BadJob (job.ScriptName key)
+stop_of_job (job.ScriptLong rank thread) = stop.BadJob (job.ScriptLong rank thread)
+stop_of_job (job.Line rank thread line fault) = stop.BadJob (job.Line rank thread line fault)
+stop_of_job (job.NotBuilt rank thread line) = stop.BadJob (job.NotBuilt rank thread line)
+stop_of_job job.TooManyOps = stop.BadJob job.TooManyOps
+stop_of_job job.Memory = stop.Memory
 
 -- where the source tells its bytes, they are the bytes of this script, at most 4 MiB
 pub record TellsScript (before : Option (List ℕ)) (ops : List Op) : Type 0 where
@@ -92,7 +100,7 @@ pub record TellsScript (before : Option (List ℕ)) (ops : List Op) : Type 0 whe
 
 -- where the source tells its bytes, this is wrong with them, which are at most 4 MiB
 pub record TellsFault (before : Option (List ℕ)) (fault : JobFault) : Type 0 where
-  pub told : (xs : List ℕ) → before ≡ Some xs → IsFault xs fault
+  pub told : (xs : List ℕ) → before ≡ Some xs → IsSoloFault xs fault
   pub short : (xs : List ℕ) → before ≡ Some xs → length xs ≤ 4194304
 
 -- the scripts of a journal: thread 0 has the operations that it calls in it, and no other thread has any

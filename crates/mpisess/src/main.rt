@@ -2,21 +2,15 @@
 //! output. Faults go to standard error.
 #![tactic(auto)]
 
-mod faults;
 mod input;
-mod lines;
 mod output;
 mod run;
-mod script;
 mod session;
-#[cfg(test)]
-mod session_tests;
 #[cfg(test)]
 mod tests;
 
-use faults::JobFault;
 use io_edge::{StdSink, StdSource};
-use script_text::FaultKind;
+use job_file::JobFault;
 use session::{Status, mpisess_calm};
 use std::alloc::Global;
 use std::process::ExitCode;
@@ -69,7 +63,7 @@ fn main(rt: HostRuntime) -> ExitCode {
         Err(status) => (status, None),
     };
     let _ = match fault {
-        Some(fault) => complain_of_job(&rt, fault),
+        Some(fault) => complain_of_job(&rt, &fault),
         None => complain(&rt, status),
     };
     ExitCode::from(status.number())
@@ -125,42 +119,6 @@ fn complain(rt: &impl Eprint, status: Status) -> io::Result<()> {
 }
 
 /// Says on standard error what is wrong with the job, and where.
-fn complain_of_job(rt: &impl Eprint, fault: JobFault) -> io::Result<()> {
-    match fault {
-        JobFault::ScriptLong { rank, thread } => {
-            eprintln!(rt;
-                "mpisess: rank {rank}, thread {thread}: the script has more than 4,096 lines"
-            )
-        }
-        JobFault::Line {
-            rank,
-            thread,
-            line,
-            fault,
-        } => {
-            let column = fault.column;
-            let text = fault_text(fault.kind);
-            eprintln!(rt;
-                "mpisess: rank {rank}, thread {thread}, line {line}, column {column}: {text}"
-            )
-        }
-        JobFault::NotBuilt { rank, thread, line } => {
-            eprintln!(rt;
-                "mpisess: rank {rank}, thread {thread}, line {line}: this operation is not built yet"
-            )
-        }
-    }
-}
-
-/// A fault of a line in words, with what is wanted in its place.
-fn fault_text(kind: FaultKind) -> &'static str {
-    match kind {
-        FaultKind::UnknownWord => "unknown word",
-        FaultKind::Missing => "the line ends where one more word is wanted",
-        FaultKind::BadName => "a name, a process set or a string is wanted",
-        FaultKind::BadNumber => "a number in its range, or a list of numbers, is wanted",
-        FaultKind::BadHex => "an even number of hexadecimal digits, or - for no bytes, is wanted",
-        FaultKind::TooLong => "too long",
-        FaultKind::Extra => "the end of the line is wanted",
-    }
+fn complain_of_job(rt: &impl Eprint, fault: &JobFault) -> io::Result<()> {
+    eprintln!(rt; "mpisess: {fault}")
 }

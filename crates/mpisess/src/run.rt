@@ -9,35 +9,27 @@ ghost use Rattle.solo_protocol.specs.Order.{IsFirstChoice, IsQuiet};
 ghost use Rattle.solo_protocol.specs.Run.{end_of};
 ghost use Rattle.mpi_base.specs.declared.keys.Key.{Key};
 ghost use Rattle.mpisess.specs.Calls.{IsNextCall, NoNextCall};
-ghost use Rattle.mpisess.specs.Job.{solo_setting, IsSoloJob, IsDrainedRun};
+ghost use Rattle.job_file.specs.Solo.{solo_setting};
+ghost use Rattle.mpisess.specs.Job.{IsSoloJob, IsDrainedRun};
 
 use mpi_base::{Act, Entry, Op, OutOfMemory};
-use mpi_law::{MOST_CONTEXTS, Scripts, Setting};
-use pset_reg::Psets;
+use mpi_law::{Scripts, Setting};
 use solo_rank::{Journal, RankState, StepKind};
 use std::alloc::Global;
 
-/// The setting of a job with one rank: all contexts, and the process sets that are always there
-/// (MPI 4.0, 11.3.2).
-fn one_rank(alloc: Global) -> Result<Setting, OutOfMemory>
-    ensures { IfOk result (λ setting. setting ≡ solo_setting) }
-{
-    Ok(Setting {
-        ranks: 1,
-        contexts: MOST_CONTEXTS,
-        psets: Psets::start(alloc, 1)?,
-    })
-}
-
-/// Runs the script of thread 0 until nothing is left to do, each time making the first of the choices
+/// Runs the script of thread 0 of the only rank until nothing is left to do, each time making the first of the choices
 /// that may be made.
-pub(crate) fn drain(alloc: Global, scripts: &Scripts) -> Result<Journal, OutOfMemory>
-    requires { IsSoloJob scripts.now }
+pub(crate) fn drain(
+    alloc: Global,
+    setting: &Setting,
+    scripts: &Scripts,
+) -> Result<Journal, OutOfMemory>
+    requires setting { setting.now ≡ solo_setting }
+    requires job { IsSoloJob scripts.now }
     ensures run { IfOk result (λ journal. IsDrainedRun scripts.now journal.entries) }
     ensures quiet { IfOk result (λ journal. IsQuiet (end_of solo_setting journal.entries) scripts.now) }
 {
-    let setting = one_rank(alloc)?;
-    let mut state = RankState::<1>::start(alloc, 0, &setting)?;
+    let mut state = RankState::<1>::start(alloc, 0, setting)?;
     let mut journal = Journal::none(alloc);
     while let Some(act) = next_act(&state, scripts) {
         state.reserve()?;

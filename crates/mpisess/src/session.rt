@@ -1,6 +1,6 @@
 //! A session of the program: a script is read from a source, run to its end, and its journal written
 //! to a sink.
-ghost use Rattle.std.specs.Prelude.{◌≡◌, ◌≤◌, ◌<◌, ℕ, List, [], ◌∷◌, true, false, not, length, is_some, IfOk, IfErr, IfSome, OnOk, Some, Err, ◌⊎◌};
+ghost use Rattle.std.specs.Prelude.{◌≡◌, ◌≤◌, ◌<◌, ℕ, List, [], true, false, not, length, is_some, IfOk, IfErr, IfSome, OnOk, Some, Err, ◌⊎◌};
 ghost use Rattle.io_edge.specs.Counts.{Rose};
 ghost use Rattle.io_edge.specs.Sink.{Takes, TakesFront};
 ghost use Rattle.history_text.specs.Text.{journal_text};
@@ -10,17 +10,15 @@ ghost use Rattle.solo_registry.specs.Registry.{IsRegistryRun, registry_opening};
 ghost use Rattle.solo_protocol.specs.World.{opening};
 ghost use Rattle.solo_protocol.specs.Run.{IsProtocolRun, end_of, events_of, calls_of};
 ghost use Rattle.solo_protocol.specs.Order.{IsDrained, IsQuiet};
-ghost use Rattle.mpisess.specs.Job.{solo_setting};
+ghost use Rattle.job_file.specs.Solo.{solo_setting, IsSoloScript, IsSoloFault};
 ghost use Rattle.mpisess.specs.Input.{ReadsAll, TellsLong};
-ghost use Rattle.mpisess.specs.Script.{IsSoloScript, IsFault};
 ghost use Rattle.mpisess.specs.Session.{is_solo_command, status_number, is_usage, is_bad_job, was_read, was_run, stop_status, stop_fault, TellsScript, TellsFault, called_scripts, registry_left, IsSoloRun};
 
-use crate::faults::{JobFault, ScriptError};
 use crate::input::{InputError, read_input};
 use crate::output::write_journal;
 use crate::run::drain;
-use crate::script::{read_script, scripts_tell};
 use io_edge::{Failed, Sink, Source};
+use job_file::{JobFault, read_solo, solo_tells};
 use mpi_base::OutOfMemory;
 use solo_law::{quiet_ends_are_closed, quiet_ends_have_called_all, runs_are_registry_runs};
 use solo_rank::Journal;
@@ -63,7 +61,7 @@ impl Status {
 }
 
 /// Why a session stopped before its job was run.
-#[derive(Clone, Copy, Debug, PartialEq, Eq, Drop)]
+#[derive(Drop)]
 enum Stop {
     /// The source failed.
     ReadFault,
@@ -77,8 +75,8 @@ enum Stop {
 
 impl Stop {
     /// The status of the session.
-    fn status(self) -> Status
-        ensures { result ≡ stop_status self }
+    fn status(&self) -> Status
+        ensures { result ≡ stop_status self.now }
     {
         match self {
             Stop::ReadFault => Status::ReadFault,
@@ -125,16 +123,16 @@ impl From<InputError> for Stop {
     }
 }
 
-impl From<ScriptError> for Stop {
+impl From<JobFault> for Stop {
     ghost use Rattle.std.specs.Prelude.{◌≡◌};
-    ghost use Rattle.mpisess.specs.Session.{stop_of_script};
+    ghost use Rattle.mpisess.specs.Session.{stop_of_job};
 
-    ghost from_gives = { λ value stop. stop ≡ stop_of_script value };
+    ghost from_gives = { λ value stop. stop ≡ stop_of_job value };
 
-    fn from(error: ScriptError) -> Stop {
-        match error {
-            ScriptError::Fault(fault) => Stop::BadJob(fault),
-            ScriptError::Memory => Stop::Memory,
+    fn from(fault: JobFault) -> Stop {
+        match fault {
+            JobFault::Memory => Stop::Memory,
+            fault => Stop::BadJob(fault),
         }
     }
 }
@@ -196,7 +194,7 @@ pub fn mpisess_calm<S: Source, K: Sink>(
     // Completeness.
     ensures complete { (bytes : List ℕ) (ops : List Op) → is_solo_command words.now ≡ true → S.left source.old ≡ Some bytes → length bytes ≤ 4194304 → IsSoloScript bytes ops
         → (Rose (S.faults source.old) (S.faults source.new) → ⊥) → (Rose (K.faults sink.old) (K.faults sink.new) → ⊥) → (result.status ≡ Status.Fine) ⊎ (result.status ≡ Status.Memory) }
-    ensures complete_fault { (bytes : List ℕ) (fault : JobFault) → is_solo_command words.now ≡ true → S.left source.old ≡ Some bytes → length bytes ≤ 4194304 → IsFault bytes fault
+    ensures complete_fault { (bytes : List ℕ) (fault : JobFault) → is_solo_command words.now ≡ true → S.left source.old ≡ Some bytes → length bytes ≤ 4194304 → IsSoloFault bytes fault
         → (Rose (S.faults source.old) (S.faults source.new) → ⊥) → (result.fault ≡ Some fault) ⊎ (result.status ≡ Status.Memory) }
     ensures complete_long { (bytes : List ℕ) → is_solo_command words.now ≡ true → S.left source.old ≡ Some bytes → 4194304 < length bytes
         → (Rose (S.faults source.old) (S.faults source.new) → ⊥) → (result.status ≡ Status.TooLong) ⊎ (result.status ≡ Status.Memory) }
@@ -204,7 +202,7 @@ pub fn mpisess_calm<S: Source, K: Sink>(
     if !is_solo(words) {
         return without_journal(alloc, Status::Usage, None);
     }
-    scripts_tell();
+    solo_tells();
     let journal = match run_input(alloc, source) {
         Ok(journal) => journal,
         Err(stop) => return without_journal(alloc, stop.status(), stop.fault()),
@@ -257,8 +255,8 @@ fn run_input<S: Source>(alloc: Global, source: &mut S) -> Result<Journal, Stop>
     ensures never_falls { S.faults source.old ≤ S.faults source.new }
 {
     let bytes = read_input(alloc, source)?;
-    let scripts = read_script(alloc, &bytes)?;
-    let journal = drain(alloc, &scripts)?;
+    let job = read_solo(alloc, &bytes)?;
+    let journal = drain(alloc, &job.setting, &job.scripts)?;
     runs_are_registry_runs();
     quiet_ends_are_closed();
     quiet_ends_have_called_all();

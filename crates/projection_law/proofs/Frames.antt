@@ -30,7 +30,7 @@ use Rattle.mpi_protocol.specs.Answers.{outcome_of, answers, answers_creation, an
 use Rattle.mpi_protocol.specs.Agreeing.{with_verdict, offers, settles_as, settles, verdict_at}
 use Rattle.mpi_protocol.specs.Delivers.{takes_packet, agrees, taken_if, delivers}
 use Rattle.mpi_protocol.specs.Step.{step, leaves, gives_back}
-use Rattle.mpi_protocol.specs.World.{World, rank_at, blank, with_link, link, put_on, taken_off}
+use Rattle.mpi_protocol.specs.World.{World, rank_at, blank, links_with, put_on, taken_off}
 
 -- the rank has the same number and setting
 pub record Same (x y : Rank) : Type 0 where
@@ -141,7 +141,7 @@ same_step x (Back c) p = record { rank = refl; setting = refl }
 
 ranks_put : (w : World) (r : ℕ) (ss : List Sent) → (put_on w r ss).ranks ≡ w.ranks
 ranks_put w r [] = refl
-ranks_put w r (s ∷ ss) = ranks_put (with_link w r s.to (link w r s.to ++ s.packet ∷ [])) r ss
+ranks_put w r (s ∷ ss) = ranks_put (record w { links = links_with w r s }) r ss
 
 pub ranks_moved : (w : World) (r : ℕ) (act : Act) (m : Move) → (put_on (record (taken_off w r act) { ranks = set w.ranks r m.state }) r m.sent).ranks ≡ set w.ranks r m.state
 ranks_moved w r act m = ranks_put (record (taken_off w r act) { ranks = set w.ranks r m.state }) r m.sent

@@ -1,6 +1,6 @@
 -- The protocol's world and the agreement's: each part is a rank's, and the flights from a rank to a rank are the packets of the
 -- agreement on the link.
-use Rattle.std.proofs.Common.{◌≡◌, ◌≢◌, ◌⊎◌, inl, inr, ◌<◌, ◌≤◌, ◌+◌, ◌*◌, ◌==◌, ◌&&◌, ℕ, zero, suc, Bool, true, false, List, [], ◌∷◌, ◌++◌, map, length, set, get_or, drop, slice_get, Some, refl, sym, subst, ap, ◌∙◌, arith, append-nil}
+use Rattle.std.proofs.Common.{◌≡◌, ◌≢◌, ◌⊎◌, inl, inr, ◌<◌, ◌≤◌, ◌+◌, ◌*◌, ◌==◌, ◌&&◌, nat_lt, ℕ, zero, suc, Bool, true, false, List, [], ◌∷◌, ◌++◌, map, length, set, get_or, drop, slice_get, Some, refl, sym, subst, ap, ◌∙◌, arith, append-nil}
 use Rattle.std.proofs.lemmas.Bool.Decides.{nat_tests}
 use Rattle.std.proofs.lemmas.List.{length-map, append_assoc}
 use Rattle.agree_law.specs.Part.{Agree, fresh}
@@ -10,7 +10,7 @@ use Rattle.agree_law.specs.World.{Flight, head_of, popped, flights_of, part_at}
 use Rattle.agree_law.proofs.Lists.{AllOf, set_place, length-set}
 use Rattle.mpi_protocol.specs.Packets.{Packet, Agreeing, Message, Marker, Sent}
 use Rattle.mpi_protocol.specs.Rank.{Rank}
-use Rattle.mpi_protocol.specs.World.{World, rank_at, blank, link, with_link, place_of_link, put_on}
+use Rattle.mpi_protocol.specs.World.{World, rank_at, blank, link, with_link, place_of_link, links_with, put_on}
 use Rattle.mpi_protocol.specs.Projection.{agreement_in, agreements, flights_on, IsAgreementOf}
 use Rattle.projection_law.proofs.Links.{agreed_in, agreed_sent, flights_on-append, agreements-append, flights_of-append, headed, popped_other, place_inside, same_place}
 
@@ -138,12 +138,16 @@ one_put w a r to q p lr lt = go q
         (flights_on-append a.links (flights_of r (agreed_in to q)) r to ∙ (rw (p.links r to lr lt, here q) (sym (agreements-append (link w r to) (q ∷ []) ∙ rw (one q) refl))))
         (λ x y ne. flights_on-append a.links (flights_of r (agreed_in to q)) x y ∙ (rw (there q x y ne) (append-nil (flights_on a.links x y))))
 
+-- a packet to a rank of the world is put on its link
+addressed : (w : World) (r : ℕ) (s : Sent) (P : World → Type 0) → s.to < length w.ranks → P (with_link w r s.to (link w r s.to ++ s.packet ∷ [])) → P (record w { links = links_with w r s })
+addressed w r s P lt here = let is : nat_lt s.to (length w.ranks) ≡ true = grind (arith, nat_tests, lt) in rw is here
+
 pub put : (w : World) (a : agreement.World) (r : ℕ) (ss : List Sent) → Projects w a → r < length w.ranks → AllOf (λ s. s.to < length w.ranks) ss
     → Projects (put_on w r ss) (with_flights a (a.links ++ flights_of r (agreed_sent ss)))
 put w a r [] p lr h = rw (append-nil a.links) p
 put w a r (s ∷ ss) p lr h =
-    let one = one_put w a r s.to s.packet p lr h.0 in
-    let all = put (with_link w r s.to (link w r s.to ++ s.packet ∷ [])) (with_flights a (a.links ++ flights_of r (agreed_in s.to s.packet))) r ss one lr h.1 in
+    let one = addressed w r s (λ z. Projects z (with_flights a (a.links ++ flights_of r (agreed_in s.to s.packet)))) h.0 (one_put w a r s.to s.packet p lr h.0) in
+    let all = put (record w { links = links_with w r s }) (with_flights a (a.links ++ flights_of r (agreed_in s.to s.packet))) r ss one lr h.1 in
     let split : (a.links ++ flights_of r (agreed_in s.to s.packet)) ++ flights_of r (agreed_sent ss) ≡ a.links ++ flights_of r (agreed_in s.to s.packet ++ agreed_sent ss) =
     append_assoc a.links (flights_of r (agreed_in s.to s.packet)) (flights_of r (agreed_sent ss)) ∙ ap (λ z. a.links ++ z) (sym (flights_of-append r (agreed_in s.to s.packet) (agreed_sent ss))) in
     subst (λ z. Projects (put_on w r (s ∷ ss)) (with_flights a z)) split all

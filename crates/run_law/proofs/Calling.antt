@@ -33,7 +33,7 @@ use Rattle.mpi_protocol.specs.Moves.{Move}
 use Rattle.mpi_protocol.specs.Calls.{around_here, called, calls}
 use Rattle.mpi_protocol.specs.Step.{step, entry_of}
 use Rattle.mpi_protocol.specs.Run.{act_events, message_events, if_fine, if_silent}
-use Rattle.mpi_protocol.specs.World.{World, link, with_link, taken_off, put_on, after, moved, move_of}
+use Rattle.mpi_protocol.specs.World.{World, taken_off, links_with, put_on, after, moved, move_of}
 use Rattle.run_law.proofs.Dues.{Dues}
 use Rattle.run_law.proofs.Threads.{row_of}
 use Rattle.run_law.proofs.Joined.{rank_in, Joined}
@@ -220,7 +220,7 @@ module _ (s : Setting) (ranks : List Rank) (due : Dues) (g : Registry) (r t : �
 
 put_on_ranks : (r : ℕ) (sent : List Sent) (w : World) → (put_on w r sent).ranks ≡ w.ranks
 put_on_ranks r [] w = refl
-put_on_ranks r (p ∷ ps) w = put_on_ranks r ps (with_link w r p.to (link w r p.to ++ p.packet ∷ []))
+put_on_ranks r (p ∷ ps) w = put_on_ranks r ps (record w { links = links_with w r p })
 
 taken_off_ranks : (w : World) (c : Choice) (m : Move) → (after w c m).ranks ≡ set w.ranks c.rank m.state
 taken_off_ranks w c m = put_on_ranks c.rank m.sent (record (taken_off w c.rank c.act) { ranks = set w.ranks c.rank m.state })

@@ -137,3 +137,12 @@ filter_absent (other ∷ ids) id absent = go (same_id id other) refl (filter_abs
         let rest : has_id ids id ≡ false = grind (arith, absent, differs) in
         let same = later rest in
         grind (arith, turned, same)
+
+-- ids that no id passes may be taken out
+pub filter_none : (ids : List SessionId) (test : SessionId → Bool) → list_any test ids ≡ false → ids ≡ filter (λ id. not (test id)) ids
+filter_none [] test none = refl
+filter_none (id ∷ ids) test none =
+    let here : test id ≡ false = grind (arith, none) in
+    let rest : list_any test ids ≡ false = grind (arith, none, here) in
+    let same = filter_none ids test rest in
+    grind (arith, here, same)

@@ -1,6 +1,6 @@
 -- What the slots of the table say of the sessions that are live.
-use Rattle.std.proofs.Common.{◌≡◌, ◌≢◌, ◌⊎◌, ℕ, ◌+◌, ◌<◌, ◌≤◌, ◌==◌, ◌&&◌, Bool, true, false, not, nat_lt, nat_le, List, [], ◌∷◌, ◌++◌, length, map, filter, get_or, Option, Some, None, is_some, position, option_map, refl, sym, ap, subst, ◌∙◌, inl, inr, arith}
-use Rattle.std.specs.List.{list_all, filter_map, cons_option, range_with_len}
+use Rattle.std.proofs.Common.{◌≡◌, ◌≢◌, ◌⊎◌, ℕ, ◌+◌, ◌<◌, ◌≤◌, ◌==◌, ◌&&◌, Bool, true, false, not, nat_lt, nat_le, List, [], ◌∷◌, ◌++◌, length, map, filter, get_or, Option, Some, None, is_some, find, position, option_map, refl, sym, ap, subst, ◌∙◌, inl, inr, arith}
+use Rattle.std.specs.List.{list_all, list_any, filter_map, cons_option, range_with_len}
 use Rattle.std.specs.List.Sorted.{IsStrictlyIncreasing}
 use Rattle.std.proofs.lemmas.Bool.Decides.{nat_tests}
 use Rattle.std.proofs.lemmas.Bool.{cases_eq}
@@ -8,7 +8,7 @@ use Rattle.std.proofs.lemmas.List.{get_or_past}
 use Rattle.std.proofs.lemmas.List.Sums.{position_or_len_is}
 use Rattle.std.proofs.lemmas.List.Quantifiers.{position-Some}
 use Rattle.std.proofs.lemmas.List.Kept.{IsStrictlyIncreasing-filter}
-use Rattle.slab.specs.Slab.{Slab, Updates}
+use Rattle.slab.specs.Slab.{Slab, Updates, entries_from}
 use Rattle.session_tab.specs.declared.ids.SessionId.{SessionId}
 use Rattle.session_tab.specs.Ids.{same_id, has_id, AreGiven}
 use Rattle.session_tab.proofs.IdLists.{passes, kept, any_none, any_some, all_some, same_ids, kept_ids, ids-more, serials-cons_option, rising_range}
@@ -153,14 +153,15 @@ live_in-added old new count slot are vacant puts =
     before : (j : ℕ) → j < slot → holds (count + 1) (get_or new.slots j None) ≡ false
     before j below = ap (holds (count + 1)) (puts.others j (λ same. omega (arith, below, same))) ∙ not_given old.slots count are (count + 1) j (omega arith)
 
--- a session less
-pub live_in-removed : (old new : Slab ℕ) (count : ℕ) (id : SessionId) → AreSlots old.slots count → get_or old.slots id.slot None ≡ Some id.serial
-    → Updates old new id.slot None
-    → live_in new.slots count ≡ filter (λ other. not (same_id other id)) (live_in old.slots count)
-live_in-removed old new count id are here puts = kept_ids (λ other. not (same_id other id)) (id_in old.slots) (id_in new.slots) (range_with_len 1 count) each
+-- a session less, where the test keeps all with another serial
+live_in-without : (old new : Slab ℕ) (count : ℕ) (id : SessionId) (test : SessionId → Bool) → AreSlots old.slots count
+    → get_or old.slots id.slot None ≡ Some id.serial → Updates old new id.slot None
+    → test id ≡ false → ((other : SessionId) → other.serial ≢ id.serial → test other ≡ true)
+    → live_in new.slots count ≡ filter test (live_in old.slots count)
+live_in-without old new count id test are here puts fails passes = kept_ids test (id_in old.slots) (id_in new.slots) (range_with_len 1 count) each
   where
     keeps : Option SessionId → Option SessionId
-    keeps = kept (λ other. not (same_id other id))
+    keeps = kept test
 
     was : id_in old.slots id.serial ≡ Some id
     was = id_in-at old.slots count id.slot id.serial are here
@@ -176,7 +177,7 @@ live_in-removed old new count id are here puts = kept_ids (λ other. not (same_i
         alone j away true is = absurd (away (are.alone j id.slot id.serial (holds_is id.serial (get_or old.slots j None) is) here))
 
     gone : id_in new.slots id.serial ≡ keeps (Some id)
-    gone = ap (option_map (λ at. record { slot = at; serial = id.serial })) (position_none new.slots id.serial nowhere) ∙ grind (arith, nat_tests)
+    gone = ap (option_map (λ at. record { slot = at; serial = id.serial })) (position_none new.slots id.serial nowhere) ∙ grind (arith, fails)
 
     other : (serial : ℕ) → serial ≢ id.serial → holds serial (get_or old.slots id.slot None) ≡ false
     other serial differs = ap (holds serial) here ∙ grind (arith, nat_tests, differs)
@@ -185,14 +186,64 @@ live_in-removed old new count id are here puts = kept_ids (λ other. not (same_i
     stays serial differs None is = is ∙ sym (ap keeps is)
     stays serial differs (Some found) is =
         let serial_is = (id_in-found old.slots serial found is).1 in
-        let kept_is : Some found ≡ keeps (Some found) = grind (arith, nat_tests, serial_is, differs) in
+        let pass = passes found (λ same. differs (sym serial_is ∙ same)) in
+        let kept_is : Some found ≡ keeps (Some found) = grind (arith, pass) in
         is ∙ kept_is ∙ sym (ap keeps is)
 
-    each : (serial : ℕ) → id_in new.slots serial ≡ kept (λ other. not (same_id other id)) (id_in old.slots serial)
+    each : (serial : ℕ) → id_in new.slots serial ≡ kept test (id_in old.slots serial)
     each serial = elim (cases_eq serial id.serial) [
       | inl same ↦ ap (id_in new.slots) same ∙ gone ∙ sym (ap keeps was) ∙ ap (λ n. keeps (id_in old.slots n)) (sym same)
       | inr differs ↦ kept_position old new id.slot None puts serial refl (other serial differs) ∙ stays serial differs (id_in old.slots serial) refl
     ]
+
+-- an id less
+pub live_in-removed : (old new : Slab ℕ) (count : ℕ) (id : SessionId) → AreSlots old.slots count → get_or old.slots id.slot None ≡ Some id.serial
+    → Updates old new id.slot None → live_in new.slots count ≡ filter (λ other. not (same_id other id)) (live_in old.slots count)
+live_in-removed old new count id are here puts =
+    live_in-without old new count id (λ other. not (same_id other id)) are here puts (grind (arith, nat_tests)) (λ other differs. grind (arith, nat_tests, differs))
+
+-- the first slot that has a serial has it
+pub slot_found : (slots : List (Option ℕ)) (serial slot : ℕ) → position (holds serial) slots ≡ Some slot → get_or slots slot None ≡ Some serial
+slot_found slots serial slot at = holds_is serial (get_or slots slot None) (position-Some (holds serial) slots slot None at).1
+
+-- the session with a serial less
+pub live_in-closed : (old new : Slab ℕ) (count slot serial : ℕ) → AreSlots old.slots count → position (holds serial) old.slots ≡ Some slot
+    → Updates old new slot None → live_in new.slots count ≡ filter (λ id. not (id.serial == serial)) (live_in old.slots count)
+live_in-closed old new count slot serial are at puts =
+    live_in-without old new count (record { slot = slot; serial = serial }) (λ id. not (id.serial == serial)) are (slot_found old.slots serial slot at) puts
+    (grind (arith, nat_tests)) (λ other differs. grind (arith, nat_tests, differs))
+
+-- whether a session with a serial is live is told by the slots
+pub any_serial-live : (slots : List (Option ℕ)) (count serial : ℕ) → AreSlots slots count
+    → list_any (λ id. id.serial == serial) (live_in slots count) ≡ is_some (position (holds serial) slots)
+any_serial-live slots count serial are = go (position (holds serial) slots) refl
+  where
+    absent : position (holds serial) slots ≡ None → (n : ℕ) (found : Option SessionId) → id_in slots n ≡ found → passes (λ id. id.serial == serial) (id_in slots n) ≡ false
+    absent nowhere n None is = rw is refl
+    absent nowhere n (Some other) is = rw is (differs (other.serial == serial) refl)
+      where
+        differs : (b : Bool) → (other.serial == serial) ≡ b → b ≡ false
+        differs false same = refl
+        differs true same =
+            let equal : n ≡ serial = sym (id_in-found slots n other is).1 ∙ grind (arith, nat_tests, same) in
+            absurd (cc (equal, is, nowhere))
+
+    go : (found : Option ℕ) → position (holds serial) slots ≡ found → list_any (λ id. id.serial == serial) (live_in slots count) ≡ is_some found
+    go None nowhere = any_none (λ id. id.serial == serial) (id_in slots) (range_with_len 1 count) (λ n. absent nowhere n (id_in slots n) refl)
+    go (Some slot) at =
+        let within = are.each slot serial (slot_found slots serial slot at) in
+        any_some (λ id. id.serial == serial) (id_in slots) count 1 serial (omega (arith, within.0)) (omega (arith, within.1)) (grind (arith, nat_tests, at))
+
+-- where a search of the entries finds a serial
+pub entry_found : (slots : List (Option ℕ)) (serial first : ℕ)
+    → option_map (λ entry. entry.0) (find (λ entry. entry.1 == serial) (entries_from first slots)) ≡ option_map (λ slot. first + slot) (position (holds serial) slots)
+entry_found [] serial first = refl
+entry_found (None ∷ slots) serial first =
+    let later = entry_found slots serial (first + 1) in
+    grind (arith, later)
+entry_found (Some other ∷ slots) serial first =
+    let later = entry_found slots serial (first + 1) in
+    grind (arith, later)
 
 -- the serials of those that are live
 serials_live : (slots : List (Option ℕ)) (serials : List ℕ)

@@ -1,8 +1,9 @@
 //! The table of sessions.
-ghost use Rattle.std.specs.Prelude.{◌≡◌, ◌<◌, ◌≤◌, ◌+◌, ◌-◌, ◌^◌, ◌∷◌, ◌++◌, [], true, not, nat_lt, filter, OnOk};
+ghost use Rattle.std.specs.Prelude.{◌≡◌, ◌<◌, ◌≤◌, ◌+◌, ◌-◌, ◌^◌, ◌∷◌, ◌++◌, ◌==◌, [], true, not, nat_lt, filter, position, OnOk};
 ghost use Rattle.std.specs.Bool.{OnFalse, OnTrue};
-ghost use Rattle.std.specs.List.{list_all};
+ghost use Rattle.std.specs.List.{list_all, list_any};
 ghost use Rattle.session_tab.specs.Ids.{same_id, has_id, AreGiven};
+ghost use Rattle.session_tab.specs.Slots.{holds};
 
 use crate::ids::SessionId;
 use mpi_base::OutOfMemory;
@@ -33,6 +34,14 @@ impl Model for Sessions {
     } };
 
     ghost invariant = { λ s. AreSlots s.serials.slots s.count };
+}
+
+/// The slot that has this serial; None where no slot has it.
+fn slot_of(serials: &Slab<u64>, serial: u64) -> Option<usize>
+    ensures { result ≡ position (holds serial) serials.now.slots }
+{
+    let (slot, _) = serials.iter().find(|(_, other)| **other == serial)?;
+    Some(slot)
 }
 
 impl Sessions {
@@ -103,6 +112,25 @@ impl Sessions {
         }
         self.serials.remove(id.slot);
         true
+    }
+
+    /// Closes the session with this serial, which leaves room for one more. False, with nothing
+    /// changed, exactly where none is live. It looks through the slots.
+    pub fn close_serial(&mut self, serial: u64) -> bool
+        ensures when { result ≡ list_any (λ id. id.serial == serial) self.old.live }
+        ensures live { self.new.live ≡ filter (λ id. not (id.serial == serial)) self.old.live }
+        ensures count { self.new.count ≡ self.old.count }
+        ensures spare { self.old.spare ≤ self.new.spare }
+        ensures room { OnTrue result (1 ≤ self.new.spare) }
+        ensures refused { OnFalse result (self.new ≡ self.old) }
+    {
+        match slot_of(&self.serials, serial) {
+            Some(slot) => {
+                self.serials.remove(slot);
+                true
+            }
+            None => false,
+        }
     }
 
     /// How many sessions were given so far, closed ones too.

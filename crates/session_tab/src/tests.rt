@@ -39,3 +39,18 @@ fn a_slot_is_used_again_under_a_new_serial(rt: HostRuntime) {
     assert!(rt; sessions.is_live(new) && !sessions.is_live(old));
     assert!(rt; !sessions.close(old) && sessions.is_live(new));
 }
+
+#[test]
+fn a_session_is_closed_by_its_serial(rt: HostRuntime) {
+    let mut sessions = Sessions::none(rt.alloc());
+    assert!(rt; !sessions.close_serial(0));
+    sessions.reserve().expect(&rt, "memory");
+    let first = sessions.add();
+    sessions.reserve().expect(&rt, "memory");
+    let second = sessions.add();
+    assert!(rt; sessions.close_serial(1));
+    assert!(rt; !sessions.is_live(first) && sessions.is_live(second));
+    assert!(rt; !sessions.close_serial(1));
+    assert!(rt; !sessions.close_serial(3));
+    assert_eq!(rt; sessions.count(), 2);
+}

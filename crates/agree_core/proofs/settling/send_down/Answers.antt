@@ -1,4 +1,4 @@
-use Rattle.std.proofs.Common.{◌++◌, ◌∙◌, map, sym, ap, refl, arith, List}
+use Rattle.std.proofs.Common.{◌++◌, ◌∙◌, map, length-append, sym, ap, refl, arith, List}
 use Rattle.and_reduce.specs.Rows.{sent_of}
 use Rattle.agree_law.specs.Packets.{Sent as Sent_seen}
 use Rattle.agree_core.proofs.MoveFacts.{down-child, down-other, down-all}
@@ -13,12 +13,14 @@ loop-place-preserved g c = elim c.if-is_child.branch [
             (down-child top c.args.key.now c.args.parent c.args.round c.loop-place.place c.args.verdict c.args.out.now.items c.loop-place.out.items (c.loop-place.invariant.0 top) _
             (sym c.is_child.ensures ∙ w.if-is_child.true) (rw (w.member_at.ensures, w.copy.ensures.same) refl))),
         omega (arith, w.push_reserved.ensures.len, w.push_reserved.ensures.capacity, c.loop-place.invariant.1),
+        grind (arith, w.push_reserved.ensures.items, length-append, c.loop-place.invariant.2),
       )
   | else-is_child w ↦
       rw w.out-is (
         λ top. (down-other top c.args.key.now c.args.parent c.args.round c.loop-place.place c.args.verdict c.args.out.now.items c.loop-place.out.items (c.loop-place.invariant.0 top)
             (sym c.is_child.ensures ∙ w.if-is_child.false)),
         omega (arith, c.loop-place.invariant.1),
+        omega (arith, c.loop-place.invariant.2),
       )
 ]
 

@@ -1,4 +1,4 @@
-use Rattle.std.proofs.Common.{◌≡◌, ◌≤◌, ◌+◌, ◌++◌, ℕ, map, filter}
+use Rattle.std.proofs.Common.{◌≡◌, ◌≤◌, ◌+◌, ◌++◌, ℕ, map, filter, length}
 use Rattle.std.specs.List.{range_with_len}
 use Rattle.agree_law.specs.Tree.{is_child}
 use Rattle.and_reduce.specs.Rooms.{room_of}
@@ -10,3 +10,4 @@ abbrev pub invariant-loop-place : goal.invariant-loop-place
 invariant-loop-place g l =
     ((top : ℕ) → map (sent_of top) l.out.items ≡ map (sent_of top) l.initial.out.items ++ map (down_to l.key l.round l.verdict) (filter (is_child l.parent) (range_with_len 0 l.place)))
     × (room_of l.initial.out ≤ room_of l.out + l.place)
+    × (length l.out.items ≤ length l.initial.out.items + l.place)

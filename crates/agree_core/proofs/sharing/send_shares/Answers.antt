@@ -1,4 +1,4 @@
-use Rattle.std.proofs.Common.{◌<◌, ◌++◌, ◌∙◌, ℕ, map, length, sym, ap, refl, arith, List}
+use Rattle.std.proofs.Common.{◌<◌, ◌++◌, ◌∙◌, ℕ, map, length, length-append, sym, ap, refl, arith, List}
 use Rattle.std.proofs.lemmas.List.{append-nil, take_all}
 use Rattle.agree_law.specs.Packets.{Sent as Sent_seen, Shares}
 use Rattle.agree_law.specs.Shares.{to_others}
@@ -9,6 +9,7 @@ use Rattle.agree_core.proofs.sharing.send_shares.Goals as goal
 pub loop-place-init : goal.loop-place-init
 loop-place-init g c = (
   λ top. (sym (append-nil (map (sent_of top) c.args.out.now.items)) ∙ ap (λ (ys : List Sent_seen). map (sent_of top) c.args.out.now.items ++ ys) (sym (others-none c.args.key.now.members _))),
+  omega arith,
   omega arith,
   omega arith,
   omega arith,
@@ -23,6 +24,7 @@ loop-place-preserved g c =
       omega (arith, c.push_reserved.ensures.len, c.push_reserved.ensures.capacity, c.loop-place.invariant.1),
       omega arith,
       omega (arith, inside, c.len-place-end.ensures.value, c.len-place-end.ensures.small),
+      grind (arith, c.push_reserved.ensures.items, length-append, c.loop-place.invariant.4),
     )
 
 pub returns-clause-sent : goal.returns-clause-sent
@@ -33,3 +35,6 @@ returns-clause-sent g c top =
 
 pub returns-clause-room : goal.returns-clause-room
 returns-clause-room g c = omega (arith, c.loop-place.invariant.1, c.loop-place.invariant.3)
+
+pub returns-clause-few : goal.returns-clause-few
+returns-clause-few g c = omega (arith, c.loop-place.invariant.3, c.loop-place.invariant.4)

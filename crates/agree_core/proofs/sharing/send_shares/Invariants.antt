@@ -1,4 +1,4 @@
-use Rattle.std.proofs.Common.{◌≡◌, ◌≤◌, ◌+◌, ◌++◌, ℕ, map, take}
+use Rattle.std.proofs.Common.{◌≡◌, ◌≤◌, ◌+◌, ◌++◌, ℕ, map, take, length}
 use Rattle.agree_law.specs.Packets.{Shares}
 use Rattle.agree_law.specs.Shares.{to_others}
 use Rattle.and_reduce.specs.Rooms.{room_of}
@@ -11,3 +11,4 @@ invariant-loop-place g l =
     × (room_of l.initial.out + 1 ≤ room_of l.out + l.place)
     × (1 ≤ l.place)
     × (l.place ≤ 16)
+    × (length l.out.items + 1 ≤ length l.initial.out.items + l.place)

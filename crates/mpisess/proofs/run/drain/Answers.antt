@@ -7,29 +7,29 @@ use Rattle.mpisess.proofs.Draining.{Draining, draining_first, draining_on, falls
 use Rattle.mpisess.proofs.run.drain.Goals as goal
 
 pub loop-act-init : goal.loop-act-init
-loop-act-init c = draining_first _ _ _ (c.in_ok-state.ensures ∙ ap (λ (s : Setting). fresh s 0) c.in_ok-setting.ensures) c.none-journal.ensures
+loop-act-init c = draining_first _ _ _ (c.in_ok-state.ensures ∙ ap (λ (s : Setting). fresh s 0) c.requires.setting) c.none-journal.ensures
 
 pub make-requires-clause-sessions : goal.make-requires-clause-sessions
-make-requires-clause-sessions c = (few_steps _ _ _ _ c.requires c.loop-act.invariant c.reserve.ensures.same).sessions
+make-requires-clause-sessions c = (few_steps _ _ _ _ c.requires.job c.loop-act.invariant c.reserve.ensures.same).sessions
 
 pub make-requires-clause-calls : goal.make-requires-clause-calls
-make-requires-clause-calls c = (few_steps _ _ _ _ c.requires c.loop-act.invariant c.reserve.ensures.same).calls
+make-requires-clause-calls c = (few_steps _ _ _ _ c.requires.job c.loop-act.invariant c.reserve.ensures.same).calls
 
 pub make-requires-clause-rounds : goal.make-requires-clause-rounds
-make-requires-clause-rounds c = (few_steps _ _ _ _ c.requires c.loop-act.invariant c.reserve.ensures.same).rounds
+make-requires-clause-rounds c = (few_steps _ _ _ _ c.requires.job c.loop-act.invariant c.reserve.ensures.same).rounds
 
 pub make-requires-clause-creations : goal.make-requires-clause-creations
-make-requires-clause-creations c = (few_steps _ _ _ _ c.requires c.loop-act.invariant c.reserve.ensures.same).creations
+make-requires-clause-creations c = (few_steps _ _ _ _ c.requires.job c.loop-act.invariant c.reserve.ensures.same).creations
 
 made : (c : goal.After-push) → Steps c.loop-act.state.state c.in-Some.act c.make.new.state.state c.make.result
 made c = subst (λ (x : Rank). Steps x c.in-Some.act c.make.new.state.state c.make.result) c.reserve.ensures.same c.make.ensures
 
 pub loop-act-smaller : goal.loop-act-smaller
-loop-act-smaller c = falls _ _ _ _ _ _ c.requires c.loop-act.invariant (made c) c.in-Some.ensures.found
+loop-act-smaller c = falls _ _ _ _ _ _ c.requires.job c.loop-act.invariant (made c) c.in-Some.ensures.found
 
 pub loop-act-preserved : goal.loop-act-preserved
 loop-act-preserved c =
-    let on = draining_on _ _ _ _ _ _ c.requires c.loop-act.invariant (made c) c.in-Some.ensures.found in
+    let on = draining_on _ _ _ _ _ _ c.requires.job c.loop-act.invariant (made c) c.in-Some.ensures.found in
     let entries : c.push.new.self.entries ≡ c.loop-act.journal.entries ++ c.make.result ∷ [] = c.push.ensures.entries ∙ ap (λ (es : List Entry). es ++ c.make.result ∷ []) c.reserve-in-Some.ensures.same in
     subst (Draining _ _) (sym entries) on
 

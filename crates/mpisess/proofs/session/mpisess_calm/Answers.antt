@@ -16,12 +16,12 @@ returns-clause-front g c = λ e. elim c.match-write_journal.branch [ in-Ok-write
 pub returns-in-Err-clause-complete : goal.returns-in-Err-clause-complete
 returns-in-Err-clause-complete g c = λ bytes ops word is few script calm sink.
     rw (c.without_journal-in-Err.ensures.status, c.status.ensures)
-    (stops_script _ bytes is c.in-Err.stop (λ e. calm (c.in-Err.ensures.read_fault (ap Err e))) (λ e. c.in-Err.ensures.too_long (ap Err e)) (λ fault e. c.in-Err.ensures.bad_job fault (ap Err e)) ops few (λ fault f. c.scripts_tell.ensures.apart bytes ops fault script f))
+    (stops_script _ bytes is c.in-Err.stop (λ e. calm (c.in-Err.ensures.read_fault (ap Err e))) (λ e. c.in-Err.ensures.too_long (ap Err e)) (λ fault e. c.in-Err.ensures.bad_job fault (ap Err e)) ops few (λ fault f. c.solo_tells.ensures.apart bytes ops fault script f))
 
 pub returns-in-Err-clause-complete_fault : goal.returns-in-Err-clause-complete_fault
 returns-in-Err-clause-complete_fault g c = λ bytes fault word is few told calm.
     rw (c.without_journal-in-Err.ensures.fault, c.fault.ensures, c.without_journal-in-Err.ensures.status, c.status.ensures)
-    (stops_fault _ bytes is c.in-Err.stop (λ e. calm (c.in-Err.ensures.read_fault (ap Err e))) (λ e. c.in-Err.ensures.too_long (ap Err e)) (λ other e. c.in-Err.ensures.bad_job other (ap Err e)) fault few (λ other f. c.scripts_tell.ensures.faults bytes other fault f told))
+    (stops_fault _ bytes is c.in-Err.stop (λ e. calm (c.in-Err.ensures.read_fault (ap Err e))) (λ e. c.in-Err.ensures.too_long (ap Err e)) (λ other e. c.in-Err.ensures.bad_job other (ap Err e)) fault few (λ other f. c.solo_tells.ensures.faults bytes other fault f told))
 
 pub returns-in-Err-clause-complete_long : goal.returns-in-Err-clause-complete_long
 returns-in-Err-clause-complete_long g c = λ bytes word is many calm.

@@ -1,5 +1,5 @@
 use Rattle.std.proofs.Common.{◌+◌, ap, subst, sym, ◌∙◌, arith}
-use Rattle.comm_law.specs.Comms.{row_at, has_serial}
+use Rattle.comm_law.specs.Comms.{has_serial}
 use Rattle.comm_tab.specs.Tables.{Table, IsOrderly}
 use Rattle.comm_tab.proofs.TableFacts.{IsOrderly-add, none_above}
 use Rattle.comm_tab.proofs.comms.CommTab.add.Goals as goal
@@ -7,7 +7,7 @@ use Rattle.comm_tab.proofs.comms.CommTab.add.Goals as goal
 pub invariant_of-self : goal.invariant_of-self
 invariant_of-self c =
     subst (λ rows. IsOrderly (record { rows = rows; added = c.self.inside.added + 1; noted = c.self.inside.markers.items })) (sym c.push_reserved.ensures.items)
-    (IsOrderly-add _ c.args.ctx c.args.members c.args.session (ap (λ (t : Table). row_at t.comms c.args.ctx) c.self.view_is ∙ c.requires.absent) c.self.invariant)
+    (IsOrderly-add _ c.args.ctx c.args.members c.args.session c.self.invariant)
 
 pub returns-clause-fresh : goal.returns-clause-fresh
 returns-clause-fresh c =

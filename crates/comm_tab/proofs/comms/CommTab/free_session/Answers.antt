@@ -10,4 +10,4 @@ invariant_of-self c =
     let rows : take c.self.inside.rows.len (c.free_rows.new.rows ++ drop (length c.free_rows.new.rows) c.self.inside.rows.items) ≡ map (λ m. if m.session == c.args.session then freed m else m) c.self.inside.rows.items =
     grind (arith, common_steps, c.free_rows.ensures, c.deref_mut.ensures) in
     subst (λ kept. IsOrderly (record { rows = kept; added = c.self.inside.added; noted = c.self.inside.markers.items })) (sym rows)
-    (IsOrderly-changed (λ m. m.session == c.args.session) freed (λ m. refl) (λ m. refl) _ c.self.invariant)
+    (IsOrderly-changed (λ m. m.session == c.args.session) freed (λ m. refl) _ c.self.invariant)

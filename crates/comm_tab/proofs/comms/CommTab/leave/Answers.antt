@@ -1,18 +1,14 @@
-use Rattle.std.proofs.Common.{refl, ap}
+use Rattle.std.proofs.Common.{◌≡◌, ◌==◌, ◌++◌, if◌then◌else◌, length, map, take, drop, refl, sym, subst, arith}
+use Rattle.std.proofs.lemmas.Grind.{common_steps}
 use Rattle.comm_law.specs.declared.rows.CommStage.TheVariants.{Left}
 use Rattle.comm_law.specs.Comms.{with_stage}
-use Rattle.comm_tab.specs.Tables.{Table}
-use Rattle.comm_tab.proofs.TableFacts.{changed_seen, still_orderly}
+use Rattle.comm_tab.specs.Tables.{IsOrderly}
+use Rattle.comm_tab.proofs.TableFacts.{IsOrderly-changed}
 use Rattle.comm_tab.proofs.comms.CommTab.leave.Goals as goal
 
 pub invariant_of-self : goal.invariant_of-self
 invariant_of-self c =
-    still_orderly _ _ (ap (λ (t : Table). t.comms) c.self.view_is) c.args.ctx c.place_of-place.result c.index_mut.result.now c.self.invariant c.place_of-place.ensures.within
-    c.index_mut.ensures.value c.place_of-place.ensures.row
-    (with_stage Left) (λ m. refl) (λ m. refl)
-
-pub returns-clause-comms : goal.returns-clause-comms
-returns-clause-comms c =
-    changed_seen _ _ (ap (λ (t : Table). t.comms) c.self.view_is) c.args.ctx c.place_of-place.result c.index_mut.result.now c.self.invariant c.place_of-place.ensures.within
-    c.index_mut.ensures.value c.place_of-place.ensures.row
-    (with_stage Left)
+    let rows : take c.self.inside.rows.len (c.leave_context.new.rows ++ drop (length c.leave_context.new.rows) c.self.inside.rows.items) ≡ map (λ m. if m.ctx == c.args.ctx then with_stage Left m else m) c.self.inside.rows.items =
+    grind (arith, common_steps, c.leave_context.ensures, c.deref_mut.ensures) in
+    subst (λ kept. IsOrderly (record { rows = kept; added = c.self.inside.added; noted = c.self.inside.markers.items })) (sym rows)
+    (IsOrderly-changed (λ m. m.ctx == c.args.ctx) (with_stage Left) (λ m. refl) _ c.self.invariant)

@@ -1,4 +1,4 @@
-use Rattle.std.proofs.Common.{◌≡◌, ◌≢◌, ℕ, ◌<◌, ◌≤◌}
+use Rattle.std.proofs.Common.{◌≡◌, ℕ, ◌<◌, ◌≤◌}
 use Rattle.link_net.specs.Net.{room, KeepsRoom}
 use Rattle.link_net.proofs.links.Links.reserve.Given as goal
 
@@ -7,5 +7,5 @@ invariant-loop-to g l = record {
   ranks : l.self.ranks ≡ l.fn.self.ranks;
   links : l.self.links ≡ l.fn.self.links;
   keeps : KeepsRoom l.fn.self l.self;
-  made : (other : ℕ) → other < l.to → other ≢ l.from → 2 ≤ room l.self l.from other;
+  made : (other : ℕ) → other < l.to → l.more ≤ room l.self l.from other;
 }

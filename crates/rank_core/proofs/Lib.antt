@@ -1,0 +1,11 @@
+mod CountFacts
+mod CommFacts
+mod MessageFacts
+mod ActFacts
+mod LeaveFacts
+mod AgreeFacts
+mod DeliverFacts
+mod AnswerFacts
+mod CreationFacts
+mod CallFacts
+mod NextFacts

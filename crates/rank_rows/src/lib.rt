@@ -1,0 +1,11 @@
+//! The rows of a rank's threads, and of the receives that are not answered.
+#![tactic(auto)]
+
+mod receives;
+#[cfg(test)]
+mod tests;
+mod threads;
+mod waits;
+
+pub use receives::Receives;
+pub use threads::Threads;

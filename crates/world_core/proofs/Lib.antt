@@ -1,0 +1,7 @@
+mod LinkFacts
+mod Offered
+mod OpeningFacts
+mod PostFacts
+mod RoomFacts
+mod RunFacts
+mod StepFacts

@@ -1,0 +1,5 @@
+pub mod Found
+pub mod Going
+pub mod Offers
+pub mod Ranks
+pub mod Searched
