@@ -1,9 +1,12 @@
 //! One rank of an agreement, step by step.
+ghost use Rattle.std.specs.Prelude.{◌≤◌};
+ghost use Rattle.and_reduce.specs.Rooms.{room_of};
+
 use crate::Agreements;
 use agree_law::{Outcome, Verdict};
 use and_reduce::Sent;
 use ctx_mask::Mask;
-use mpi_base::{Key, Kind, Members, StringTag};
+use mpi_base::{Key, Kind, Members, Shared1, StringTag};
 use std::process::Abort;
 
 /// A key over ranks; keys of a kind are ordered by their number.
@@ -71,6 +74,22 @@ impl Rank {
             .take_verdict(from, key, round, verdict, &mut self.out);
     }
 
+    fn begin_share(&mut self, rt: &impl Abort, key: &Key, share: (Option<i32>, i32)) {
+        self.part.reserve().expect(rt, "memory");
+        self.out.reserve(16).expect(rt, "memory");
+        let (colour, order) = share;
+        let share = Shared1 { colour, key: order };
+        self.part.begin_share(key, share, &mut self.out);
+    }
+
+    fn share(&mut self, rt: &impl Abort, from: u16, key: &Key, share: (Option<i32>, i32)) {
+        self.part.reserve().expect(rt, "memory");
+        assert!(rt; self.part.may_take_share(from, key), "taken");
+        let (colour, order) = share;
+        self.part
+            .take_share(from, key, Shared1 { colour, key: order });
+    }
+
     /// The receivers of what was sent since the last call, as digits.
     fn sent(&mut self) -> u64 {
         let mut digits: u64 = 0;
@@ -122,4 +141,68 @@ fn place_two_gathers_for_place_three(rt: HostRuntime) {
     assert!(rt; rank.offer(&rt, &world));
     rank.up(&rt, 3, &world, 1, Some(2));
     assert_eq!(rt; rank.sent(), 30);
+}
+
+/// Ranks as digits.
+fn digits(members: &Members) -> u64 {
+    let mut digits: u64 = 0;
+    for place in 0..members.len() {
+        let rank = members.get(place).unwrap_or(0);
+        digits = digits.wrapping_mul(10).wrapping_add(u64::from(rank));
+    }
+    digits
+}
+
+/// The class of this rank, where it has all shares.
+fn class_of(part: &mut Agreements<1>, key: &Key, out: &mut Vec<Sent<1>>) -> Option<Option<Key>>
+    requires room { 1 ≤ part.old.spare }
+    requires out { 16 ≤ room_of out.old }
+{
+    if part.may_settle_share(key) {
+        return Some(part.settle_share(key, out));
+    }
+    None
+}
+
+/// The shares of ranks 2, 4, 6 and 8, the class of rank 2 in order, and who is sent something, as digits.
+const SPLITS: [([(Option<i32>, i32); 4], u64, u64); 3] = [
+    (
+        [(Some(0), 5), (Some(1), 0), (Some(0), 5), (Some(0), 1)],
+        826,
+        4_688,
+    ),
+    (
+        [(Some(7), -1), (Some(7), -2), (None, 0), (Some(7), -1)],
+        428,
+        4_684,
+    ),
+    (
+        [(None, 3), (Some(0), 3), (Some(0), 3), (Some(0), 3)],
+        0,
+        468,
+    ),
+];
+
+#[test]
+fn a_class_is_ordered_by_key_and_old_rank(rt: HostRuntime) {
+    let split = key(&rt, Kind::Share, 0, &[2, 4, 6, 8]);
+    for (shares, wanted, sent) in &SPLITS {
+        let mut rank = Rank {
+            part: Agreements::start(rt.alloc(), 2, 3),
+            out: Vec::new(rt.alloc()),
+        };
+        rank.begin_share(&rt, &split, shares[0]);
+        rank.share(&rt, 4, &split, shares[1]);
+        rank.share(&rt, 6, &split, shares[2]);
+        rank.share(&rt, 8, &split, shares[3]);
+        rank.part.reserve().expect(&rt, "memory");
+        rank.out.reserve(16).expect(&rt, "memory");
+        let class = class_of(&mut rank.part, &split, &mut rank.out).expect(&rt, "whole");
+        let members = match class {
+            Some(class) => class.members,
+            None => Members::none(),
+        };
+        assert_eq!(rt; digits(&members), *wanted);
+        assert_eq!(rt; rank.sent(), *sent);
+    }
 }

@@ -1,4 +1,4 @@
 mod Sessions
+mod Serials
 mod Draining
 mod Firsts
-mod Written

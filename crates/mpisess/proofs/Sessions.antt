@@ -1,5 +1,8 @@
 -- What was read, and what was run of it.
 use Rattle.std.proofs.Common.{◌≡◌, ℕ, zero, suc, ◌+◌, ◌<◌, ◌≤◌, Bool, true, false, List, [], ◌∷◌, ◌⊎◌, ⊎_elim, length, get_or, take, Option, Some, Result, Err, refl, sym, ap, ◌∙◌, subst, inl, inr, arith, min}
+use Rattle.std.specs.Prelude.{String, string_bytes, bytes_eq, codes}
+use Rattle.std.specs.declared.alloc.Global.{Global}
+use Rattle.std.proofs.lemmas.Slice.Eq.{bytes_eq-Decides}
 use Rattle.std.proofs.lemmas.List.{take_all, length-take}
 use Rattle.std.specs.Result.{IsErrAnd}
 use Rattle.mpi_base.specs.declared.entries.Entry.{Entry}
@@ -16,11 +19,11 @@ use Rattle.job_file.specs.Lines.{lines_of, body_of, is_blank, SpellsFirst, Spell
 use Rattle.job_file.specs.Solo.{solo_setting, solo_of, IsSoloScript, IsSoloFault}
 use Rattle.mpisess.specs.Input.{ReadsFront, ReadsAll, ReadsWhole, TellsLong}
 use Rattle.mpisess.specs.declared.session.Status.{Status}
-use Rattle.mpisess.specs.declared.session.Status.TheVariants.{Fine, WriteFault, TooLong, Memory}
+use Rattle.mpisess.specs.declared.session.Status.TheVariants.{Fine, Usage, BadJob, Stuck, ReadFault, WriteFault, TooLong, Memory}
 use Rattle.mpisess.specs.declared.session.Stop.{Stop}
 use Rattle.mpisess.specs.declared.session.Stop.TheVariants as stop
 use Rattle.mpisess.specs.Job.{IsSoloJob, IsDrainedRun}
-use Rattle.mpisess.specs.Session.{stop_status, stop_fault, stop_of_job, TellsScript, TellsFault, called_scripts, IsSoloRun}
+use Rattle.mpisess.specs.Session.{stop_status, stop_fault, stop_of_job, TellsScript, TellsFault, called_scripts, IsSoloRun, is_solo_command, is_serial_command}
 
 -- of an input that is not too long all was read
 whole : (most : ℕ) (xs bytes : List ℕ) → bytes ≡ take most xs → length xs < most → bytes ≡ xs
@@ -105,8 +108,14 @@ solo_run scripts journal solo calls drained quiet registry closed =
 
 -- the sink failed
 abbrev pub is_write_fault : Status → Bool
+is_write_fault Fine = false
+is_write_fault Usage = false
+is_write_fault BadJob = false
+is_write_fault Stuck = false
+is_write_fault ReadFault = false
 is_write_fault WriteFault = true
-is_write_fault _ = false
+is_write_fault TooLong = false
+is_write_fault Memory = false
 
 -- a session that stops for a fault of the job was stopped by that fault
 told_fault : (f fault : JobFault) → stop.BadJob fault ≡ stop_of_job f → f ≡ fault
@@ -127,35 +136,37 @@ told_fault job.Memory fault h = absurd (cc (h))
 stopped_by : {A : Type 0} (r : Result A Stop) (f fault : JobFault) → r ≡ Err (stop.BadJob fault) → IsErrAnd r (λ s. s ≡ stop_of_job f) → f ≡ fault
 stopped_by r f fault bad holds = told_fault f fault (subst (λ (s : Result _ Stop). IsErrAnd s (λ s. s ≡ stop_of_job f)) bad holds)
 
--- and that fault is what is wrong with the script, since want of memory is no fault of the job
-pub stopped_well : {A : Type 0} (r : Result A Stop) (bytes : List ℕ) (f fault : JobFault) → r ≡ Err (stop.BadJob fault) → IsErrAnd r (λ s. s ≡ stop_of_job f) → (f ≡ job.Memory) ⊎ IsSoloFault bytes f → IsSoloFault bytes fault
-stopped_well r bytes f fault bad holds known = ⊎_elim memory told known
+-- and that fault is what is wrong with the input, since want of memory is no fault of the job
+pub stopped_well : {A : Type 0} (Wrong : JobFault → Type 0) (r : Result A Stop) (f fault : JobFault) → r ≡ Err (stop.BadJob fault) → IsErrAnd r (λ s. s ≡ stop_of_job f) → (f ≡ job.Memory) ⊎ Wrong f → Wrong fault
+stopped_well Wrong r f fault bad holds known = ⊎_elim memory told known
   where
-    memory : f ≡ job.Memory → IsSoloFault bytes fault
+    memory : f ≡ job.Memory → Wrong fault
     memory e = let none : stop.BadJob fault ≡ stop.Memory = subst (λ (s : Result _ Stop). IsErrAnd s (λ s. s ≡ stop_of_job job.Memory)) bad (subst (λ (g : JobFault). IsErrAnd r (λ s. s ≡ stop_of_job g)) e holds) in absurd (cc (none))
 
-    told : IsSoloFault bytes f → IsSoloFault bytes fault
-    told h = subst (IsSoloFault bytes) (stopped_by r f fault bad holds) h
+    told : Wrong f → Wrong fault
+    told h = subst Wrong (stopped_by r f fault bad holds) h
 
 -- What stopped a session, where the source tells its bytes and did not fail
 
-module _ (before : Option (List ℕ)) (bytes : List ℕ) (is : before ≡ Some bytes) (why : Stop) (calm : why ≡ stop.ReadFault → ⊥) (long : why ≡ stop.TooLong → TellsLong before) (bad : (fault : JobFault) → why ≡ stop.BadJob fault → TellsFault before fault) where
-  pub stops_script : (ops : List Op) → length bytes ≤ 4194304 → ((fault : JobFault) → IsSoloFault bytes fault → ⊥) → (stop_status why ≡ Fine) ⊎ (stop_status why ≡ Memory)
-  stops_script ops few none = go why refl
+module _ (before : Option (List ℕ)) (bytes : List ℕ) (is : before ≡ Some bytes) (why : Stop) (calm : why ≡ stop.ReadFault → ⊥) (long : why ≡ stop.TooLong → TellsLong before) (Wrong : JobFault → Type 0) (bad : (fault : JobFault) → why ≡ stop.BadJob fault → Wrong fault × (length bytes ≤ 4194304)) where
+  -- an input without a fault stops a session only for want of memory
+  pub stops_faultless : length bytes ≤ 4194304 → ((fault : JobFault) → Wrong fault → ⊥) → stop_status why ≡ Memory
+  stops_faultless few none = go why refl
     where
-      go : (w : Stop) → why ≡ w → (stop_status w ≡ Fine) ⊎ (stop_status w ≡ Memory)
+      go : (w : Stop) → why ≡ w → stop_status w ≡ Memory
       go stop.ReadFault e = absurd (calm e)
       go stop.TooLong e = let l = (long e).long bytes is in absurd (omega (arith, l, few))
-      go (stop.BadJob fault) e = absurd (none fault ((bad fault e).told bytes is))
-      go stop.Memory e = inr refl
+      go (stop.BadJob fault) e = absurd (none fault (bad fault e).0)
+      go stop.Memory e = refl
 
-  pub stops_fault : (fault : JobFault) → length bytes ≤ 4194304 → ((other : JobFault) → IsSoloFault bytes other → other ≡ fault) → (stop_fault why ≡ Some fault) ⊎ (stop_status why ≡ Memory)
-  stops_fault fault few one = go why refl
+  -- and any other for a fault that is told
+  pub stops_fault : (Told : Option JobFault → Type 0) → length bytes ≤ 4194304 → ((fault : JobFault) → Wrong fault → Told (Some fault)) → Told (stop_fault why) ⊎ (stop_status why ≡ Memory)
+  stops_fault Told few one = go why refl
     where
-      go : (w : Stop) → why ≡ w → (stop_fault w ≡ Some fault) ⊎ (stop_status w ≡ Memory)
+      go : (w : Stop) → why ≡ w → Told (stop_fault w) ⊎ (stop_status w ≡ Memory)
       go stop.ReadFault e = absurd (calm e)
       go stop.TooLong e = let l = (long e).long bytes is in absurd (omega (arith, l, few))
-      go (stop.BadJob other) e = inl (ap Some (one other ((bad other e).told bytes is)))
+      go (stop.BadJob fault) e = inl (one fault (bad fault e).0)
       go stop.Memory e = inr refl
 
   pub stops_long : 4194304 < length bytes → (stop_status why ≡ TooLong) ⊎ (stop_status why ≡ Memory)
@@ -164,5 +175,18 @@ module _ (before : Option (List ℕ)) (bytes : List ℕ) (is : before ≡ Some b
       go : (w : Stop) → why ≡ w → (stop_status w ≡ TooLong) ⊎ (stop_status w ≡ Memory)
       go stop.ReadFault e = absurd (calm e)
       go stop.TooLong e = inl refl
-      go (stop.BadJob other) e = let l = (bad other e).short bytes is in absurd (omega (arith, l, many))
+      go (stop.BadJob fault) e = let l = (bad fault e).1 in absurd (omega (arith, l, many))
       go stop.Memory e = inr refl
+
+-- Commands
+
+words_apart : (word : List ℕ) → bytes_eq word (codes "solo") ≡ true → bytes_eq word (codes "serial") ≡ false
+words_apart word e =
+    let same : word ≡ codes "solo" = (bytes_eq-Decides word (codes "solo")).0 e in
+    subst (λ (other : List ℕ). bytes_eq other (codes "serial") ≡ false) (sym same) refl
+
+-- no words are two commands
+pub solo_is_not_serial : (words : List (String Global)) → is_solo_command words ≡ true → is_serial_command words ≡ false
+solo_is_not_serial [] e = refl
+solo_is_not_serial (word ∷ []) e = words_apart (string_bytes word) e
+solo_is_not_serial (word ∷ next ∷ words) e = refl

@@ -1,5 +1,5 @@
 -- What the statuses of a session of the program mean.
-use Rattle.std.specs.Prelude.{◌≡◌, ℕ, ◌≤◌, Bool, true, false, List, [], ◌∷◌, length, String, string_bytes, bytes_eq, codes, Option, Some, None}
+use Rattle.std.specs.Prelude.{◌≡◌, ℕ, ◌≤◌, Bool, true, false, List, [], ◌∷◌, length, String, string_bytes, bytes_eq, codes, ◌||◌, Option, Some, None}
 use Rattle.std.specs.declared.alloc.Global.{Global}
 use Rattle.mpi_base.specs.declared.entries.Entry.{Entry}
 use Rattle.mpi_base.specs.declared.ops.Op.{Op}
@@ -13,7 +13,7 @@ use Rattle.job_file.specs.declared.faults.JobFault.{JobFault}
 use Rattle.job_file.specs.declared.faults.JobFault.TheVariants as job
 use Rattle.job_file.specs.Solo.{solo_setting, solo_of, IsSoloScript, IsSoloFault}
 use Rattle.mpisess.specs.declared.session.Status.{Status}
-use Rattle.mpisess.specs.declared.session.Status.TheVariants.{Fine, Usage, BadJob, ReadFault, WriteFault, TooLong, Memory}
+use Rattle.mpisess.specs.declared.session.Status.TheVariants.{Fine, Usage, BadJob, Stuck, ReadFault, WriteFault, TooLong, Memory}
 use Rattle.mpisess.specs.declared.session.Stop.{Stop}
 use Rattle.mpisess.specs.declared.session.Stop.TheVariants as stop
 use Rattle.mpisess.specs.declared.input.InputError.{InputError}
@@ -25,11 +25,21 @@ is_solo_command [] = false
 is_solo_command (word ∷ []) = bytes_eq (string_bytes word) (codes "solo")
 is_solo_command (word ∷ next ∷ words) = false
 
+-- the words of the command line are the one word serial
+abbrev pub is_serial_command : List (String Global) → Bool
+is_serial_command [] = false
+is_serial_command (word ∷ []) = bytes_eq (string_bytes word) (codes "serial")
+is_serial_command (word ∷ next ∷ words) = false
+
+abbrev pub is_command : List (String Global) → Bool
+is_command words = is_solo_command words || is_serial_command words
+
 -- the number with which the process ends
 abbrev pub status_number : Status → ℕ
 status_number Fine = 0
 status_number Usage = 1
 status_number BadJob = 2
+status_number Stuck = 3
 status_number ReadFault = 4
 status_number WriteFault = 5
 status_number TooLong = 6
@@ -37,29 +47,58 @@ status_number Memory = 7
 
 -- the command line was not understood
 abbrev pub is_usage : Status → Bool
+is_usage Fine = false
 is_usage Usage = true
-is_usage _ = false
+is_usage BadJob = false
+is_usage Stuck = false
+is_usage ReadFault = false
+is_usage WriteFault = false
+is_usage TooLong = false
+is_usage Memory = false
 
 -- the input is no job
 abbrev pub is_bad_job : Status → Bool
+is_bad_job Fine = false
+is_bad_job Usage = false
 is_bad_job BadJob = true
-is_bad_job _ = false
+is_bad_job Stuck = false
+is_bad_job ReadFault = false
+is_bad_job WriteFault = false
+is_bad_job TooLong = false
+is_bad_job Memory = false
 
 -- the input was read as far as it may be read
 abbrev pub was_read : Status → Bool
 was_read Fine = true
 was_read Usage = false
 was_read BadJob = true
+was_read Stuck = true
 was_read ReadFault = false
 was_read WriteFault = true
 was_read TooLong = true
 was_read Memory = false
 
--- the job was run to its end
+-- the job was run until nothing was left to do
 abbrev pub was_run : Status → Bool
 was_run Fine = true
+was_run Usage = false
+was_run BadJob = false
+was_run Stuck = true
+was_run ReadFault = false
 was_run WriteFault = true
-was_run _ = false
+was_run TooLong = false
+was_run Memory = false
+
+-- and its whole journal was written
+abbrev pub was_written : Status → Bool
+was_written Fine = true
+was_written Usage = false
+was_written BadJob = false
+was_written Stuck = true
+was_written ReadFault = false
+was_written WriteFault = false
+was_written TooLong = false
+was_written Memory = false
 
 -- the status of a session that stopped before its job was run, and what was wrong with the job
 abbrev pub stop_status : Stop → Status
@@ -69,8 +108,10 @@ stop_status (stop.BadJob fault) = BadJob
 stop_status stop.Memory = Memory
 
 abbrev pub stop_fault : Stop → Option JobFault
+stop_fault stop.ReadFault = None
+stop_fault stop.TooLong = None
 stop_fault (stop.BadJob fault) = Some fault
-stop_fault _ = None
+stop_fault stop.Memory = None
 
 -- why a session stops where the input, or the job, was not read
 abbrev pub stop_of_input : InputError → Stop

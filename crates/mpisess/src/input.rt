@@ -47,6 +47,7 @@ impl From<AllocError> for InputError {
 
 /// Reads to the end of input, or to byte [`MOST_BYTES`] + 1 where the input is longer.
 pub(crate) fn read_input<S: Source>(alloc: Global, source: &mut S) -> Result<Vec<u8>, InputError>
+    ensures short { IfOk result (λ bytes. length bytes.items ≤ 4194304) }
     ensures read { IfOk result (λ bytes. ReadsWhole (S.left source.old) bytes.items) }
     ensures long { result ≡ Err InputError.TooLong → TellsLong (S.left source.old) }
     ensures all { was_ended result ≡ true → ReadsAll (S.left source.old) (S.left source.new) }

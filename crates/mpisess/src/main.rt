@@ -1,36 +1,49 @@
-//! The program `mpisess`: a script is read from standard input, run, and its journal written to standard
-//! output. Faults go to standard error.
+//! The program `mpisess`: a job is read from standard input, run, and its journal written to standard
+//! output. Faults go to standard error, and so does who waits for what where a job ends stuck.
 #![tactic(auto)]
 
 mod input;
-mod output;
 mod run;
+mod serial;
 mod session;
+mod solo;
 #[cfg(test)]
 mod tests;
 
 use io_edge::{StdSink, StdSource};
 use job_file::JobFault;
+use mpi_base::Entry;
 use session::{Status, mpisess_calm};
 use std::alloc::Global;
 use std::process::ExitCode;
 use std::rt::Env;
 use std::{env, io};
+use stuck_report::Stuck;
 
 const VERSION: &str = "mpisess 0.1";
 
 const USAGE: &str = "\
-usage: mpisess solo < SCRIPT > JOURNAL
+usage: mpisess serial < JOB > JOURNAL
+       mpisess solo < SCRIPT > JOURNAL
        mpisess --help
        mpisess --version";
 
 const HELP: &str = "\
-usage: mpisess solo < SCRIPT > JOURNAL
+usage: mpisess serial < JOB > JOURNAL
+       mpisess solo < SCRIPT > JOURNAL
 
-Runs the script of one rank and writes a line for each step, with each reply.
+Runs the job of many ranks, or the script of one, and writes a line for each step, with each reply.
+
+A job is a TOML document with these keys:
+  format = 1                      the format of the job
+  ranks = NUM                     how many ranks there are, 1 to 16
+  contexts = NUM                  how many contexts, 1 to 63; 63 where the key is missing
+  [psets]                         process sets: \"app://NAME\" = [0, 1]
+  [scripts]                       scripts, by rank and thread (0 to 7): \"0.0\" = \"\"\"LINES\"\"\"
 
 The lines of a script:
   session NAME                    opens a session
+  finalize NAME                   ends a session (serial)
   psets NAME                      tells how many process sets there are
   nth NAME NUM                    tells the name of a process set
   info NAME PSET                  tells the size of a process set
@@ -43,16 +56,24 @@ The lines of a script:
   size NAME, rank NAME            tell the size of a group, and the rank in it
   gfree NAME                      frees a group
   create NAME STRING -> NAME      makes a communicator from a group and a string tag
+  create_group NAME NAME NUM -> NAME  makes one from a communicator, a group and a tag (serial)
   dup NAME -> NAME                duplicates a communicator
+  split NAME COLOUR KEY -> NAME   makes a communicator for each colour (serial)
   group NAME -> NAME              makes the group of a communicator
   ccompare NAME NAME              compares communicators
   csize NAME, crank NAME          tell the size of a communicator, and the rank in it
   free NAME                       frees a communicator
+  send NAME RANK TAG HEX          sends bytes (serial)
+  recv NAME RANK TAG ROOM         receives; RANK and TAG may be any (serial)
+  irecv NAME RANK TAG ROOM -> NAME  posts a receive (serial)
+  wait NAME                       waits for a posted receive (serial)
+  await NAME                      waits until another thread has bound a name (serial)
 Spaces stand between the words. Blank lines and lines that begin with # are passed.
 
-The process ends with 0 where the journal was written, 1 where the words were not understood, 2 where
-the script cannot be run, 4 or 5 where reading or writing failed, 6 where the script has more than
-4,194,304 bytes, and 7 where no memory was left.";
+The process ends with 0 where the journal was written and every script is ended, 1 where the words were
+not understood, 2 where the job cannot be run, 3 where the journal was written and some thread waits for
+ever, 4 or 5 where reading or writing failed, 6 where the input has more than 4,194,304 bytes, and 7
+where no memory was left.";
 
 /// How the program ended, and what was wrong with the job.
 type Outcome = (Status, Option<JobFault>);
@@ -83,7 +104,7 @@ fn command_words(rt: &(impl Env + Alloc<A = Global>)) -> Result<Vec<String>, Sta
 }
 
 /// Answers the words of the command line.
-fn answer(rt: &(impl Input + Print + Alloc<A = Global>), words: &[String]) -> Outcome {
+fn answer(rt: &(impl Input + Print + Eprint + Alloc<A = Global>), words: &[String]) -> Outcome {
     match words {
         [word] if word.as_str() == "--help" => (printed(rt.println(HELP)), None),
         [word] if word.as_str() == "--version" => (printed(rt.println(VERSION)), None),
@@ -91,6 +112,9 @@ fn answer(rt: &(impl Input + Print + Alloc<A = Global>), words: &[String]) -> Ou
             let mut source = StdSource::new(rt);
             let mut sink = StdSink::new(rt);
             let done = mpisess_calm(rt.alloc(), words, &mut source, &mut sink);
+            if done.status == Status::Stuck {
+                let _ = tell_waiting(rt, done.journal.as_slice());
+            }
             (done.status, done.fault)
         }
     }
@@ -104,12 +128,17 @@ fn printed(outcome: io::Result<()>) -> Status {
     }
 }
 
-/// Says on standard error what went wrong, in words.
+/// Says on standard error who waits for what at the end of a journal.
+fn tell_waiting(rt: &impl Eprint, entries: &[Entry]) -> io::Result<()> {
+    rt.eprintln(Stuck::at_end(entries))
+}
+
+/// Says on standard error what went wrong, in words. Who waits where a job ends stuck is said already.
 fn complain(rt: &impl Eprint, status: Status) -> io::Result<()> {
     let text = match status {
-        Status::Fine => return Ok(()),
+        Status::Fine | Status::Stuck => return Ok(()),
         Status::Usage => return rt.eprintln(USAGE),
-        Status::BadJob => "standard input is no script that can be run",
+        Status::BadJob => "standard input is no job that can be run",
         Status::ReadFault => "standard input could not be read",
         Status::WriteFault => "standard output could not be written",
         Status::TooLong => "standard input has more than 4,194,304 bytes",

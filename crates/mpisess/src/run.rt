@@ -14,8 +14,9 @@ ghost use Rattle.mpisess.specs.Job.{IsSoloJob, IsDrainedRun};
 
 use mpi_base::{Act, Entry, Op, OutOfMemory};
 use mpi_law::{Scripts, Setting};
-use solo_rank::{Journal, RankState, StepKind};
+use solo_rank::{RankState, StepKind};
 use std::alloc::Global;
+use world_core::Journal;
 
 /// Runs the script of thread 0 of the only rank until nothing is left to do, each time making the first of the choices
 /// that may be made.

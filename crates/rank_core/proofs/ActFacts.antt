@@ -1,6 +1,6 @@
 -- Acts of a rank from their parts.
-use Rattle.std.proofs.Common.{◌≡◌, ◌≤◌, ◌+◌, ◌++◌, ℕ, List, [], map, length, refl, sym, subst, ◌∙◌, ap, arith, Option, Some, None}
-use Rattle.std.proofs.lemmas.List.{append-nil, length-append, length-map}
+use Rattle.std.proofs.Common.{◌≡◌, ◌≤◌, ◌+◌, ◌++◌, ℕ, List, [], map, length, refl, subst, ◌∙◌, ap, arith, Option}
+use Rattle.std.proofs.lemmas.List.{append-nil, length-map}
 use Rattle.mpi_base.specs.declared.entries.Act.{Act}
 use Rattle.mpi_base.specs.declared.entries.Entry.{Entry}
 use Rattle.agree_law.specs.Packets as agree_seen

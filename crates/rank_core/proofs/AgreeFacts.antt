@@ -1,5 +1,5 @@
 -- Offers and settles.
-use Rattle.std.proofs.Common.{◌≡◌, ◌≤◌, ◌+◌, ◌||◌, ◌&&◌, ◌++◌, ℕ, ℤ, Bool, true, false, if◌then◌else◌, List, [], map, option_map, length, refl, sym, subst, ◌∙◌, ap, arith, Option, Some, None}
+use Rattle.std.proofs.Common.{◌≡◌, ◌≤◌, ◌+◌, ℕ, ℤ, Bool, true, false, if◌then◌else◌, List, option_map, length, refl, subst, ◌∙◌, ap, arith, Option, Some, None}
 use Rattle.mpi_base.specs.declared.keys.Key.{Key}
 use Rattle.mpi_base.specs.declared.entries.Act.TheVariants.{Offer as MakeOffer, Settle}
 use Rattle.mpi_base.specs.declared.entries.Entry.{Entry}
@@ -13,7 +13,6 @@ use Rattle.agree_law.specs.Gather.{verdict_of}
 use Rattle.agree_law.specs.Kinds.{is_share}
 use Rattle.agree_law.specs.Moves.{may_settle, settle}
 use Rattle.agree_law.specs.Offers.{make_offer}
-use Rattle.agree_law.specs.Packets.{Moved}
 use Rattle.agree_law.specs.Part.{round_of}
 use Rattle.agree_law.specs.Rule.{may_own}
 use Rattle.agree_law.specs.Shares.{may_settle_share, settle_share, share_list}
@@ -25,7 +24,6 @@ use Rattle.comm_law.specs.Comms.{Comms}
 use Rattle.mpi_protocol.specs.declared.rows.ThreadRow.{ThreadRow}
 use Rattle.mpi_protocol.specs.Packets.{agreeing, said_of}
 use Rattle.mpi_protocol.specs.Rank.{Rank, with_key}
-use Rattle.mpi_protocol.specs.Moves.{Move}
 use Rattle.mpi_protocol.specs.Agreeing.{agreed, colour_here, next_key, offers, saying, settles, settles_as, verdict_at, with_verdict}
 use Rattle.mpi_protocol.specs.Step.{is_enabled, step}
 use Rattle.rank_core.specs.Packets.{Box, sent_by}

@@ -1,5 +1,5 @@
 -- Answers: what a thread has waited for is over.
-use Rattle.std.proofs.Common.{◌≡◌, ◌==◌, ◌&&◌, ◌||◌, ℕ, Bool, true, false, if◌then◌else◌, List, [], refl, ◌∙◌, ap, sym, subst, arith, Option, Some, None}
+use Rattle.std.proofs.Common.{◌≡◌, ◌==◌, ◌||◌, ℕ, Bool, true, false, if◌then◌else◌, List, [], refl, ◌∙◌, ap, sym, subst, arith, Option, Some, None}
 use Rattle.std.specs.Prelude.{is_some}
 use Rattle.agree_law.specs.declared.rows.Outcome.{Outcome}
 use Rattle.agree_law.specs.Part.{stage_of}
@@ -13,7 +13,7 @@ use Rattle.mpi_protocol.specs.declared.rows.ReceiveRow.{ReceiveRow}
 use Rattle.mpi_protocol.specs.declared.rows.ThreadRow.{ThreadRow}
 use Rattle.mpi_protocol.specs.declared.rows.Waits.{Waits}
 use Rattle.mpi_protocol.specs.declared.rows.Waits.TheVariants.{Nothing, Creation, Uncoloured, Freeing, Ending, Receiving, Awaiting}
-use Rattle.mpi_protocol.specs.Answers.{answered, answers, answers_creation, answers_receive, answers_row, answers_taken, is_answerable, is_done, outcome_of, reply_of}
+use Rattle.mpi_protocol.specs.Answers.{answered, answers, answers_creation, answers_row, answers_taken, is_answerable, is_done, outcome_of, reply_of}
 use Rattle.mpi_protocol.specs.Moves.{Move}
 use Rattle.mpi_protocol.specs.Rank.{Rank, receive_of, taken_of, thread_at, with_waits}
 use Rattle.mpi_protocol.specs.Step.{Steps, is_enabled, step}

@@ -1,5 +1,5 @@
 -- Calls.
-use Rattle.std.proofs.Common.{◌≡◌, ◌≤◌, ◌<◌, ◌+◌, ◌==◌, ◌&&◌, ◌++◌, if◌then◌else◌, ℕ, Bool, true, false, List, [], ◌∷◌, map, length, refl, sym, subst, ◌∙◌, ap, arith, Option, Some, None}
+use Rattle.std.proofs.Common.{◌≡◌, ◌≤◌, ◌+◌, ◌==◌, ◌++◌, if◌then◌else◌, ℕ, Bool, true, false, List, [], ◌∷◌, length, refl, sym, subst, ◌∙◌, ap, arith, Option, Some, None}
 use Rattle.std.proofs.lemmas.List.{length-map}
 use Rattle.local_law.specs.Names.{bind, unbind}
 use Rattle.local_law.specs.Objects as objects
@@ -18,16 +18,14 @@ use Rattle.mpi_law.specs.declared.effects.Receiving.{Receiving as ReceiveAsked}
 use Rattle.mpi_law.specs.declared.effects.Sending.{Sending}
 use Rattle.mpi_law.specs.Local.{effect_of}
 use Rattle.mpi_law.specs.Local.Objects.{Local, with_names}
-use Rattle.agree_law.specs.Packets as agree
 use Rattle.comm_law.specs.Comms.{Comms, free_session}
 use Rattle.match_law.specs.declared.rows.Posted.{Posted}
 use Rattle.match_law.specs.Box.{Box as MessageBox, arrive, post}
 use Rattle.mpi_protocol.specs.declared.rows.ThreadRow.{ThreadRow}
-use Rattle.mpi_protocol.specs.declared.rows.Waits.{Waits}
 use Rattle.mpi_protocol.specs.declared.rows.Waits.TheVariants.{Nothing, Ending, Receiving, Awaiting}
-use Rattle.mpi_protocol.specs.Calls.{around_here, called, calls, joins, message_of, opens, posted_of, received, requested, sends, sends_to, sent, with_post}
+use Rattle.mpi_protocol.specs.Calls.{around_here, called, calls, message_of, posted_of, sends, sends_to, sent, with_post}
 use Rattle.mpi_protocol.specs.Moves.{Move, arrives_to, posts, posts_to}
-use Rattle.mpi_protocol.specs.Packets.{Message, Sent as Sent_seen}
+use Rattle.mpi_protocol.specs.Packets.{Message}
 use Rattle.mpi_protocol.specs.Rank.{Rank, with_call}
 use Rattle.mpi_protocol.specs.Step.{step}
 use Rattle.rank_core.specs.Calling.{Carries, requested_as}

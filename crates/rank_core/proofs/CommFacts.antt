@@ -1,7 +1,6 @@
 -- The communicators of a rank keep their contexts.
-use Rattle.std.proofs.Common.{◌≡◌, ◌≤◌, ◌==◌, ◌&&◌, ◌++◌, not, ℕ, Bool, true, false, if◌then◌else◌, List, [], ◌∷◌, map, filter, refl, sym, subst, ◌∙◌, ap, arith, Option, Some, None}
+use Rattle.std.proofs.Common.{◌≡◌, ◌≤◌, ◌==◌, ◌++◌, ℕ, Bool, true, false, if◌then◌else◌, List, [], ◌∷◌, map, filter, refl, subst, ◌∙◌, arith, Option, Some, None}
 use Rattle.std.specs.Prelude.{find}
-use Rattle.std.specs.List.{AllByRecursion}
 use Rattle.std.proofs.lemmas.Bool.Decides.{nat_tests}
 use Rattle.mpi_law.specs.declared.setting.Setting.{Setting}
 use Rattle.mpi_base.specs.declared.keys.Key.{Key}
@@ -9,7 +8,7 @@ use Rattle.agree_law.specs.declared.rows.Verdict.{Verdict}
 use Rattle.agree_law.specs.declared.rows.Verdict.TheVariants.{Ready, Retry, Context, Exhausted}
 use Rattle.and_reduce.specs.Rows.{IsPick}
 use Rattle.comm_law.specs.declared.rows.CommRow.{CommRow}
-use Rattle.comm_law.specs.Comms.{Comms, add, all_marked, all_marked_row, at, count_call, free_session, leave, mark_free, remove, row_at}
+use Rattle.comm_law.specs.Comms.{Comms, all_marked, all_marked_row, at, count_call, free_session, leave, mark_free, remove, row_at}
 use Rattle.mpi_base.specs.declared.entries.Act.TheVariants.{Back}
 use Rattle.mpi_protocol.specs.declared.rows.ThreadRow.{ThreadRow}
 use Rattle.mpi_protocol.specs.Step.{is_enabled}

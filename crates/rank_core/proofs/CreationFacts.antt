@@ -1,5 +1,5 @@
 -- Calls of creations.
-use Rattle.std.proofs.Common.{◌≡◌, ◌≤◌, ◌<◌, ◌+◌, ◌-◌, ◌^◌, ◌++◌, ℕ, Bool, List, [], map, length, refl, sym, subst, ◌∙◌, ap, arith, Option, Some, None}
+use Rattle.std.proofs.Common.{◌≡◌, ◌≤◌, ◌<◌, ◌-◌, ◌^◌, ℕ, List, refl, sym, subst, ◌∙◌, ap, arith, None}
 use Rattle.std.specs.Prelude.{All}
 use Rattle.std.proofs.lemmas.List.Elements.{All-weaker}
 use Rattle.local_law.specs.Names.{bind}
@@ -18,8 +18,7 @@ use Rattle.comm_law.specs.declared.rows.CommRow.{CommRow}
 use Rattle.comm_law.specs.Comms.{Comms}
 use Rattle.mpi_protocol.specs.declared.rows.ThreadRow.{ThreadRow}
 use Rattle.mpi_protocol.specs.declared.rows.Waits.TheVariants.{Creation}
-use Rattle.mpi_protocol.specs.Calls.{called, counted, joins, key_of, opens}
-use Rattle.mpi_protocol.specs.Moves.{Move}
+use Rattle.mpi_protocol.specs.Calls.{called, counted, key_of, opens}
 use Rattle.mpi_protocol.specs.Packets.{agreeing}
 use Rattle.mpi_protocol.specs.Rank.{Rank, with_call}
 use Rattle.rank_core.specs.Held.{CountsAreLow, Held, IsRank, IsReady}

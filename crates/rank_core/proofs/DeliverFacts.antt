@@ -1,5 +1,5 @@
 -- Packets of the agreement that come.
-use Rattle.std.proofs.Common.{◌≡◌, ◌≤◌, ◌+◌, ℕ, Bool, true, false, List, [], length, refl, sym, subst, ◌∙◌, ap, arith, Option, Some, None}
+use Rattle.std.proofs.Common.{◌≡◌, ◌≤◌, ◌+◌, ℕ, Bool, true, false, List, [], length, refl, subst, ◌∙◌, ap, Option, Some, None}
 use Rattle.mpi_base.specs.declared.entries.Act.TheVariants.{Deliver}
 use Rattle.mpi_base.specs.declared.entries.Brief.{Brief}
 use Rattle.mpi_base.specs.declared.entries.Entry.{Entry}

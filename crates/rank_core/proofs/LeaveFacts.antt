@@ -1,5 +1,5 @@
 -- Leaves and give-backs.
-use Rattle.std.proofs.Common.{◌≡◌, ◌<◌, ◌≤◌, ◌+◌, ◌==◌, ◌++◌, not, ℕ, true, false, List, [], ◌∷◌, map, filter, take, length, get_or, refl, sym, subst, ◌∙◌, ap, arith, Option, Some, None}
+use Rattle.std.proofs.Common.{◌≡◌, ◌<◌, ◌≤◌, ◌+◌, ◌==◌, ◌++◌, ℕ, true, false, List, [], ◌∷◌, map, take, length, get_or, refl, sym, subst, ◌∙◌, ap, arith, Some, None}
 use Rattle.std.proofs.lemmas.List.{append-nil, append_assoc, map-append, take_more}
 use Rattle.mpi_base.specs.declared.entries.Act.TheVariants.{Leave, Back}
 use Rattle.mpi_base.specs.declared.entries.Entry.{Entry}

@@ -1,5 +1,5 @@
 -- Messages that a rank sends, and receives that it posts.
-use Rattle.std.proofs.Common.{◌≡◌, ◌+◌, ◌==◌, ℕ, true, false, List, [], ◌∷◌, ◌++◌, map, refl, sym, subst, ◌∙◌, ap, arith, Option, Some, None}
+use Rattle.std.proofs.Common.{◌≡◌, ◌+◌, ◌==◌, ℕ, true, false, List, [], ◌∷◌, ◌++◌, map, refl, sym, subst, ◌∙◌, ap, Option, None}
 use Rattle.std.proofs.lemmas.List.{map-append, append_assoc}
 use Rattle.mpi_base.specs.declared.messages.Matched.{Matched}
 use Rattle.mpi_base.specs.declared.messages.Msg.{Msg}

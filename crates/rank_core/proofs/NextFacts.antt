@@ -1,8 +1,8 @@
 -- The least candidate of a kind that counts is the next step of the kind.
-use Rattle.std.proofs.Common.{◌≡◌, ℕ, zero, suc, ◌+◌, ◌<◌, ◌==◌, ◌&&◌, ◌||◌, Bool, true, false, if◌then◌else◌, List, [], ◌∷◌, ◌++◌, map, take, get_or, length, Option, Some, None, refl, sym, ◌∙◌, ap, subst, arith}
+use Rattle.std.proofs.Common.{◌≡◌, ℕ, zero, suc, ◌+◌, ◌<◌, ◌==◌, ◌&&◌, ◌||◌, Bool, true, false, if◌then◌else◌, List, [], ◌∷◌, ◌++◌, map, take, get_or, length, Option, Some, None, refl, sym, ◌∙◌, ap, subst, arith, true≢false}
 use Rattle.std.specs.Prelude.{find, IfSome, is_some, nat_lt}
 use Rattle.std.specs.Option.{IfNone}
-use Rattle.std.specs.List.{AllByRecursion, range_with_len}
+use Rattle.std.specs.List.{AllByRecursion, list_any, range_with_len}
 use Rattle.std.proofs.lemmas.Bool.Decides.{nat_tests}
 use Rattle.std.proofs.lemmas.List.{map_more, append-nil, append_assoc}
 use Rattle.mpi_base.specs.declared.keys.Key.{Key}
@@ -208,3 +208,28 @@ next-found x wanted after (Some l) h =
 pub next-none : (x : Rank) (wanted : StepKind) (after o : Option Act) → IsLeast x wanted after (candidates x wanted) o → IfNone o (NoneNext x wanted after)
 next-none x wanted after None h = λ a k en. let f = is-candidate (λ m. counts x after m ≡ false) x wanted a k en h in grind (arith, f, en)
 next-none x wanted after (Some l) h = tt
+
+-- Whether there is one at all
+
+none-passes : (f : Act → Bool) (acts : List Act) → list_any f acts ≡ false → AllByRecursion (λ m. f m ≡ false) acts
+none-passes f [] e = tt
+none-passes f (a ∷ acts) e = (grind (arith, e), none-passes f acts (grind (arith, e)))
+
+any-map : {X : Type 0} (f : Act → Bool) (of : X → Act) (xs : List X) → list_any f (map of xs) ≡ list_any (λ x. f (of x)) xs
+any-map f of [] = refl
+any-map f of (x ∷ xs) = ap (λ (b : Bool). f (of x) || b) (any-map f of xs)
+
+none-enabled : (x : Rank) (wanted : StepKind) → list_any (is_enabled x) (candidates x wanted) ≡ false → NoneNext x wanted None
+none-enabled x wanted e a k en = absurd (true≢false (sym en ∙ is-candidate (λ m. is_enabled x m ≡ false) x wanted a k en (none-passes (is_enabled x) (candidates x wanted) e)))
+
+pub no-candidate : (x : Rank) (wanted : StepKind) → candidates x wanted ≡ [] → NoneNext x wanted None
+no-candidate x wanted e = none-enabled x wanted (rw e refl)
+
+pub no-answer : (x : Rank) → list_any (λ t. is_enabled x (Answer t)) (range_with_len 0 THREADS) ≡ false → NoneNext x kind.Answer None
+no-answer x e = none-enabled x kind.Answer (any-map (is_enabled x) (λ t. Answer t) (range_with_len 0 THREADS) ∙ e)
+
+pub no-leave : (x : Rank) → list_any (λ m. is_enabled x (Leave m.ctx)) x.comms.rows ≡ false → NoneNext x kind.Leave None
+no-leave x e = none-enabled x kind.Leave (any-map (is_enabled x) (λ m. Leave m.ctx) x.comms.rows ∙ e)
+
+pub no-back : (x : Rank) → list_any (λ m. is_enabled x (Back m.ctx)) x.comms.rows ≡ false → NoneNext x kind.Back None
+no-back x e = none-enabled x kind.Back (any-map (is_enabled x) (λ m. Back m.ctx) x.comms.rows ∙ e)

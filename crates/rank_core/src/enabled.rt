@@ -36,7 +36,7 @@ impl<const W: usize> RankState<W> {
     }
 
     /// Whether a thread may be answered.
-    fn may_answer(&self, thread: u8) -> bool
+    pub(crate) fn may_answer(&self, thread: u8) -> bool
         ensures { result ≡ (nat_lt thread THREADS && is_answerable_at self.now.state (thread_at self.now.state thread).waits) }
     {
         match self.threads.get(thread) {
@@ -57,7 +57,7 @@ impl<const W: usize> RankState<W> {
 
     /// Whether the rank may leave a communicator.
     #[tactic(auto, unfolding(mpi_protocol::specs::Rank::has_open_under))]
-    fn may_leave(&self, ctx: u16) -> bool
+    pub(crate) fn may_leave(&self, ctx: u16) -> bool
         ensures { result ≡ may_leave_at self.now.state ctx }
     {
         self.is_freed(ctx) && !self.threads.has_open_under(ctx)
@@ -72,7 +72,7 @@ impl<const W: usize> RankState<W> {
     }
 
     /// Whether the rank may give a communicator back.
-    fn may_give_back(&self, ctx: u16) -> bool
+    pub(crate) fn may_give_back(&self, ctx: u16) -> bool
         ensures { result ≡ may_give_back_at self.now.state ctx }
     {
         self.comms.all_marked(ctx) && self.matches.posted(ctx) == 0 && self.agree.owner().is_none()

@@ -1,6 +1,9 @@
 //! Which step comes next.
-ghost use Rattle.std.specs.Prelude.{◌≡◌, if◌then◌else◌, IfSome, option_copied};
+ghost use Rattle.std.specs.Prelude.{◌≡◌, if◌then◌else◌, false, [], None, IfSome, option_copied};
 ghost use Rattle.std.specs.Option.{IfNone};
+ghost use Rattle.std.specs.List.{list_any, range_with_len};
+ghost use Rattle.mpi_law.specs.declared.setting.TheConstants.{THREADS};
+ghost use Rattle.mpi_protocol.specs.Step.{is_enabled};
 ghost use Rattle.rank_core.specs.Candidates.{candidates, counts, lesser, IsLeast};
 ghost use Rattle.rank_core.specs.Next.{comes_before, is_above as is_above_option, place_of, place_before, ByKey, ByNumber, IsNext, NoneNext};
 
@@ -184,5 +187,68 @@ impl<const W: usize> RankState<W> {
         ensures none { IfNone result (NoneNext self.now.state kind (option_copied after.entry)) }
     {
         self.least_of(kind, after)
+    }
+    /// Whether some thread may be answered.
+    #[tactic(auto, unfolding(mpi_protocol::specs::Step::is_enabled))]
+    fn has_answer(&self) -> bool
+        ensures { result ≡ list_any (λ t. is_enabled self.now.state (Act.Answer t)) (range_with_len 0 THREADS) }
+    {
+        (0..THREADS).any(
+            |thread| -> bool
+                ensures { result ≡ is_enabled self.entry.now.state (Act.Answer thread) }
+            { self.may_answer(thread) },
+        )
+    }
+
+    /// Whether there is an offer or a share of some creation, without which nothing may be settled.
+    fn has_gathered(&self) -> bool
+        ensures { result ≡ false → candidates self.now.state StepKind.Settle ≡ [] }
+    {
+        !self.agree.offers().is_empty() || !self.agree.shares().is_empty()
+    }
+
+    /// Whether a creation is open, without which nothing may be offered.
+    fn has_opened(&self) -> bool
+        ensures { result ≡ false → candidates self.now.state StepKind.Offer ≡ [] }
+    {
+        !self.agree.opened().is_empty()
+    }
+
+    /// Whether some communicator may be left.
+    #[tactic(auto, unfolding(mpi_protocol::specs::Step::is_enabled))]
+    fn has_leave(&self) -> bool
+        ensures { result ≡ list_any (λ m. is_enabled self.now.state (Act.Leave m.ctx)) self.now.state.comms.rows }
+    {
+        self.comms.rows().iter().any(
+            |row| -> bool
+                ensures { result ≡ is_enabled self.entry.now.state (Act.Leave row.now.ctx) }
+            { self.may_leave(row.ctx) },
+        )
+    }
+
+    /// Whether some communicator may be given back.
+    #[tactic(auto, unfolding(mpi_protocol::specs::Step::is_enabled))]
+    fn has_back(&self) -> bool
+        ensures { result ≡ list_any (λ m. is_enabled self.now.state (Act.Back m.ctx)) self.now.state.comms.rows }
+    {
+        self.comms.rows().iter().any(
+            |row| -> bool
+                ensures { result ≡ is_enabled self.entry.now.state (Act.Back row.now.ctx) }
+            { self.may_give_back(row.ctx) },
+        )
+    }
+
+    /// Whether a step of a kind may be there: false only where none may be made. It copies no step, and
+    /// so is quicker than [`RankState::next`].
+    pub fn has_next(&self, kind: StepKind) -> bool
+        ensures none { result ≡ false → NoneNext self.now.state kind None }
+    {
+        match kind {
+            StepKind::Answer => self.has_answer(),
+            StepKind::Settle => self.has_gathered(),
+            StepKind::Offer => self.has_opened(),
+            StepKind::Leave => self.has_leave(),
+            StepKind::Back => self.has_back(),
+        }
     }
 }

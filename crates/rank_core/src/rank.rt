@@ -70,14 +70,16 @@ impl<const W: usize> RankState<W> {
         ensures state { IfOk result (λ r. r.state ≡ fresh setting.now rank) }
         ensures boxed { IfOk result (λ r. r.boxed ≡ 0) }
     {
+        let setting = setting.try_copy(alloc)?;
+        let threads = Threads::idle(alloc)?;
         Ok(RankState {
-            setting: setting.try_copy(alloc)?,
             agree: Agreements::start(alloc, rank, setting.contexts),
+            setting,
             comms: CommTab::none(alloc, rank),
             matches: MatchBox::none(alloc),
             receives: Receives::none(alloc),
             objects: Objects::none(alloc),
-            threads: Threads::idle(alloc)?,
+            threads,
             sends: 0,
             posts: 0,
         })

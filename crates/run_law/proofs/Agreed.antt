@@ -1,12 +1,14 @@
 -- What is asked of the agreement, each of one step, in the words of the ranks and of what is due.
-use Rattle.std.proofs.Common.{◌≡◌, ◌<◌, ℕ, true, false, List, get_or, Option, Some, None}
+use Rattle.std.proofs.Common.{◌≡◌, ◌<◌, ℕ, true, false, List, length, get_or, slice_get, Option, Some, None}
 use Rattle.mpi_base.specs.declared.keys.Key.{Key}
 use Rattle.mpi_base.specs.MemberLists.{has_rank}
+use Rattle.mpi_base.specs.declared.shares.Shared1.{Shared1}
 use Rattle.mpi_law.specs.declared.setting.Setting.{Setting}
 use Rattle.mpi_law.specs.Registry.Contexts.{is_exchange}
-use Rattle.agree_law.specs.declared.rows.Stage.TheVariants.{Offered}
+use Rattle.agree_law.specs.declared.rows.Stage.TheVariants.{Sharing, Offered}
 use Rattle.agree_law.specs.declared.rows.Verdict.{Verdict}
 use Rattle.agree_law.specs.declared.rows.Verdict.TheVariants.{Context}
+use Rattle.agree_law.specs.Tree.{member_at}
 use Rattle.agree_law.specs.Part.{stage_of}
 use Rattle.agree_law.specs.Rule.{is_key}
 use Rattle.mpi_protocol.specs.Rank.{Rank}
@@ -43,6 +45,16 @@ pub record TakesFinal (x : Rank) (due : Option Verdict) (key : Key) (v : Verdict
   pub stage : stage_of x.agree.opened key ≡ Some (Offered round true)
   pub owns : is_key x.agree.owner key ≡ true
   pub said : due ≡ Some v
+
+-- at a settle of an exchange, the list has for each member the share that the member has told and waits with
+pub record TellsShare (x : Rank) (key : Key) (item : Option Shared1) : Type 0 where
+  pub share : Shared1
+  pub stage : stage_of x.agree.opened key ≡ Some (Sharing share)
+  pub item_is : item ≡ Some share
+
+pub record AllTold (ranks : List Rank) (key : Key) (list : List Shared1) : Type 0 where
+  pub long : length list ≡ length key.members
+  pub each : (p : ℕ) → p < length key.members → TellsShare (rank_in ranks (member_at key.members p)) key (slice_get list p)
 
 -- nothing is due under a key that is not open
 abbrev pub Untold : List Rank → Dues → Type 0

@@ -7,7 +7,7 @@ use Rattle.mpi_law.specs.declared.setting.Setting.{Setting}
 use Rattle.mpi_law.specs.Local.Objects.{NameRow}
 use Rattle.mpi_law.specs.Registry.State as reg
 use Rattle.mpi_law.specs.Registry.State.{Registry, Communicator, Creation, CreationName, Pick, Creating, Wait, ThreadPart, RankPart, Outcome, Made, NoneFree, blank_part}
-use Rattle.mpi_law.specs.Registry.Creations.{is_split, is_nil, parent_of, caller_of, has_called, called_on, outcome_for, with_answer, is_counted_on}
+use Rattle.mpi_law.specs.Registry.Creations.{is_split, is_nil, parent_of, caller_of, has_called, all_called, called_on, outcome_for, with_answer, is_counted_on}
 use Rattle.mpi_law.specs.Registry.Contexts.{comm_of}
 use Rattle.agree_law.specs.declared.rows.Stage.{Stage}
 use Rattle.agree_law.specs.declared.rows.Verdict.{Verdict}
@@ -66,6 +66,7 @@ module _ (s : Setting) (ranks : List Rank) (due : Dues) (g : Registry) (r n : �
     apart = j.whole.apart;
     one_open = λ i k li lk e o p. j.whole.one_open i k (in_old i li) (in_old k lk) (sym (kept (λ w x y z. w) i) ∙ (e ∙ kept (λ w x y z. w) k)) (sym (kept (λ w x y z. is_split w || is_nil z) i) ∙ o) (sym (kept (λ w x y z. is_split w || is_nil z) k) ∙ p);
     for_all = λ i q li sp mem none. kept (λ w x y z. is_nil z) i ∙ j.whole.for_all i q (in_old i li) (sym (kept (λ w x y z. is_split w) i) ∙ sp) (sym (kept (λ w x y z. has_rank x q) i) ∙ mem) (sym (kept (λ w x y z. outcome_for (record { name = w; group = x; callers = y; picks = z; answered = [] }) q) i) ∙ none);
+    unpicked = λ i li sp left. kept (λ w x y z. is_nil z) i ∙ j.whole.unpicked i (in_old i li) (sym (kept (λ w x y z. is_split w) i) ∙ sp) (sym (kept (λ w x y z. all_called (record { name = w; group = x; callers = y; picks = z; answered = [] })) i) ∙ left);
     made_inside = λ i q p li e. j.whole.made_inside i q p (in_old i li) (sym (kept (λ w x y z. outcome_for (record { name = w; group = x; callers = y; picks = z; answered = [] }) q) i) ∙ e);
     made_once = λ i k q p li lk e f. j.whole.made_once i k q p (in_old i li) (in_old k lk) (sym (kept (λ w x y z. outcome_for (record { name = w; group = x; callers = y; picks = z; answered = [] }) q) i) ∙ e) (sym (kept (λ w x y z. outcome_for (record { name = w; group = x; callers = y; picks = z; answered = [] }) q) k) ∙ f);
     numbered = λ i q p li on c. (let z = j.whole.numbered i q p (in_old i li) (sym (kept (λ w x y z. is_counted_on p w) i) ∙ on) (sym (kept (λ w x y z. list_any (λ (k : reg.Caller). k.rank == q) y) i) ∙ c) in let e = called_on-set g.creations n (with_answer (creation_in g.creations n) r) p q refl refl in let f = kept (λ w x y z. number_in w) i in omega (arith, z, e, f));

@@ -53,7 +53,7 @@ use Rattle.run_law.proofs.Bindings.{each_bind, unbound_bind, fewer_unbind, names
 use Rattle.run_law.proofs.Waiters.{thread_inside}
 use Rattle.run_law.proofs.Parts.{thread_in, PartsAfter}
 use Rattle.run_law.proofs.JoinWholes.{rows, counts}
-use Rattle.run_law.proofs.Joins.{calling_row, join_joined}
+use Rattle.run_law.proofs.Joins.{calling_row, calls, join_joined}
 use Rattle.run_law.proofs.OneThread.{is_creation, uncreated, thread_joined}
 use Rattle.run_law.proofs.OpenHere.{open_agrees}
 use Rattle.run_law.proofs.CallParts.{idle, may_call, parts_call, said_parts, wait_is, parts_said}
@@ -226,6 +226,9 @@ module _ (s : Setting) (ranks : List Rank) (due : Dues) (g : Registry) (r t : �
     member : has_rank (z ∷ zs) r ≡ true
     member = let l : (length (z ∷ zs) == 0) ≡ false = grind (arith, nat_tests) in grind (arith, there, l)
 
+    alone : is_split name ≡ true → (i : ℕ) → i < length g.creations → (creation_in g.creations i).name ≡ name → has_called (creation_in g.creations i) r ≡ false
+    alone e i li named = absurd (cc (e))
+
     number : (p : ℕ) → is_counted_on p name ≡ true → number_in name ≡ called_on g.creations p r
     number p e = absurd (cc (e))
 
@@ -235,14 +238,14 @@ module _ (s : Setting) (ranks : List Rank) (due : Dues) (g : Registry) (r t : �
     parts : PartsAfter g.ranks new r t m (record { calls = (part_row (get_or g.ranks r blank_part).threads t).calls + 1; wait = Creating at })
     parts = parts_call s ranks due g r t j lt here ew m (Creating at)
 
-    same : (p : ℕ) → called_on (rows s ranks due g r t target session name (z ∷ zs) m new j here (idle s ranks due g r t j lt here ew) refl refl fresh number under parts) p r ≡ called_on g.creations p r
-    same p = let e = counts s ranks due g r t target session name (z ∷ zs) m new j here (idle s ranks due g r t j lt here ew) refl refl fresh number under parts p r in omega (arith, e)
+    same : (p : ℕ) → called_on (rows s ranks due g r t target session name (z ∷ zs) m new j here (idle s ranks due g r t j lt here ew) None alone member refl fresh number under parts) p r ≡ called_on g.creations p r
+    same p = let e = counts s ranks due g r t target session name (z ∷ zs) m new j here (idle s ranks due g r t j lt here ew) None alone member refl fresh number under parts p r in omega (arith, e)
 
-    comms : CommsFit s.contexts g.comms (rows s ranks due g r t target session name (z ∷ zs) m new j here (idle s ranks due g r t j lt here ew) refl refl fresh number under parts) (get_or g.ranks r blank_part).threads r x.comms.rows x.comms.added x.agree.owner (due r) x.threads
+    comms : CommsFit s.contexts g.comms (rows s ranks due g r t target session name (z ∷ zs) m new j here (idle s ranks due g r t j lt here ew) None alone member refl fresh number under parts) (get_or g.ranks r blank_part).threads r x.comms.rows x.comms.added x.agree.owner (due r) x.threads
     comms = record { each = λ b. each b (row_in x.comms.rows b) (comm_of g.comms r b) ((j.comms r).each b); range = (j.comms r).range; freeing = (j.comms r).freeing; serials = (j.comms r).serials }
       where
         each : (b : ℕ) (o : Option CommRow) (p : Option ℕ) → CommFits g.comms g.creations r x.agree.owner (due r) b o p
-            → CommFits g.comms (rows s ranks due g r t target session name (z ∷ zs) m new j here (idle s ranks due g r t j lt here ew) refl refl fresh number under parts) r x.agree.owner (due r) b o p
+            → CommFits g.comms (rows s ranks due g r t target session name (z ∷ zs) m new j here (idle s ranks due g r t j lt here ew) None alone member refl fresh number under parts) r x.agree.owner (due r) b o p
         each b None None h = tt
         each b (Some y) None h = h
         each b None (Some p) h = record { key = h.key; owns = h.owns; said = h.said; calls = same p ∙ h.calls }
@@ -254,6 +257,6 @@ module _ (s : Setting) (ranks : List Rank) (due : Dues) (g : Registry) (r t : �
         let b = begin_part x.rank x.setting.contexts x.agree key in
         rw is (
           (may_call s ranks due g r t j lt here ew op (ask (Grouped (z ∷ zs) tag) target session) false is refl, tt),
-          join_joined s ranks due g r t target session name (z ∷ zs) m new j here (idle s ranks due g r t j lt here ew) refl refl fresh number under parts key
-              (begin x.rank x.setting.contexts x.agree key).part x.comms (with_names x.local (bind x.local.names target bound.Reserved)) lt ew b.0 b.1 (rw b.2 (j.masks r lt)) refl refl closed (untold r key closed) member refl (λ c h. h) (held target free) (λ c y. still_unbound target c y) comms,
+          join_joined s ranks due g r t target session name (z ∷ zs) m new j here (idle s ranks due g r t j lt here ew) None alone member refl fresh number under parts key Called
+              (begin x.rank x.setting.contexts x.agree key).part x.comms (with_names x.local (bind x.local.names target bound.Reserved)) lt ew b.0 b.1 (rw b.2 (j.masks r lt)) refl (calls refl refl) closed (untold r key closed) member refl (λ c h. h) (held target free) (λ c y. still_unbound target c y) comms,
         )

@@ -1,5 +1,5 @@
--- A call by its operation, where it sends and posts nothing, and the ranks of a world after a choice. A split is open.
-use Rattle.std.proofs.Common.{◌≡◌, ◌<◌, ℕ, ◌+◌, Bool, true, false, List, [], ◌∷◌, ◌++◌, length, set, Some, None, refl, ap, ◌∙◌}
+-- A call by its operation, where it sends and posts nothing, and the ranks of a world after a choice.
+use Rattle.std.proofs.Common.{◌≡◌, ◌<◌, ℕ, ◌+◌, Bool, true, false, List, [], ◌∷◌, length, set, Some, None, refl, ap, ◌∙◌}
 use Rattle.std.specs.Prelude.{Result, Ok, Err}
 use Rattle.mpi_base.specs.declared.errors.ErrClass.{ErrClass}
 use Rattle.mpi_base.specs.declared.messages.SrcArg.TheVariants as source
@@ -11,8 +11,6 @@ use Rattle.mpi_base.specs.declared.entries.Choice.{Choice}
 use Rattle.local_law.specs.Objects as bound
 use Rattle.mpi_law.specs.declared.setting.Setting.{Setting}
 use Rattle.mpi_law.specs.declared.setting.TheConstants.{THREADS}
-use Rattle.mpi_law.specs.declared.effects.Origin.{Origin}
-use Rattle.mpi_law.specs.declared.effects.Origin.TheVariants.{Grouped, Duplicated, Divided, GroupedOn}
 use Rattle.mpi_law.specs.declared.effects.Effect.{Effect}
 use Rattle.mpi_law.specs.declared.effects.Effect.TheVariants.{Says, Opens, Groups, Ungroups, Joins, Frees, Ends, Sends, Receives, Posts, NullPosts, Completes, Awaits}
 use Rattle.mpi_law.specs.Local.{call_of, refusal, effect_of}
@@ -41,7 +39,7 @@ use Rattle.run_law.proofs.Agreed.{Untold, DueIsFree}
 use Rattle.run_law.proofs.Alike.{Alike, says, opens, groups, ungroups, grouped, duplicated, divided, grouped_on, frees, ends, sends, receives, posts, null_posts, completes, awaits, effects_alike}
 use Rattle.run_law.proofs.CallSteps.{call_events, said_goes, waits_goes, with_name, unbound_by, without_name, with_session, grouped_goes}
 use Rattle.run_law.proofs.Bindings.{other_unbind}
-use Rattle.run_law.proofs.DupSteps.{duplicated_goes}
+use Rattle.run_law.proofs.CountedSteps.{duplicated_goes, divided_goes}
 use Rattle.run_law.proofs.GroupSteps.{grouped_on_goes}
 use Rattle.run_law.proofs.FreeSteps.{frees_goes}
 use Rattle.run_law.proofs.EndSteps.{ends_goes}
@@ -147,48 +145,11 @@ said_in x t (NullPosts target) h = refl
 said_in x t (Completes name number) h = refl
 said_in x t (Awaits name) h = refl
 
--- the calls that are proved so far
-abbrev is_joined : Origin ℕ → Bool
-is_joined (Grouped group tag) = true
-is_joined (Duplicated c) = true
-is_joined (Divided c share) = false
-is_joined (GroupedOn c tag group) = true
-
-abbrev pub is_proved : Effect ℕ → Bool
-is_proved (Says said) = true
-is_proved (Opens target) = true
-is_proved (Groups target members session) = true
-is_proved (Ungroups name) = true
-is_proved (Joins a) = is_joined a.origin
-is_proved (Frees name c) = true
-is_proved (Ends name session) = true
-is_proved (Sends m) = false
-is_proved (Receives a) = false
-is_proved (Posts target a) = false
-is_proved (NullPosts target) = true
-is_proved (Completes name number) = true
-is_proved (Awaits name) = true
-
-proved_quiet : (e : Effect ℕ) → is_proved e ≡ true → is_quiet e ≡ true
-proved_quiet (Says said) h = refl
-proved_quiet (Opens target) h = refl
-proved_quiet (Groups target members session) h = refl
-proved_quiet (Ungroups name) h = refl
-proved_quiet (Joins a) h = refl
-proved_quiet (Frees name c) h = refl
-proved_quiet (Ends name session) h = refl
-proved_quiet (Sends m) h = h
-proved_quiet (Receives a) h = h
-proved_quiet (Posts target a) h = h
-proved_quiet (NullPosts target) h = refl
-proved_quiet (Completes name number) h = refl
-proved_quiet (Awaits name) h = refl
-
 module _ (s : Setting) (ranks : List Rank) (due : Dues) (g : Registry) (r t : ℕ) (j : Joined s ranks due g) (untold : Untold ranks due) (free_due : DueIsFree ranks due) (lt : r < s.ranks) (here : t < THREADS) (ew : (row_of (rank_in ranks r).threads t).waits ≡ Nothing) (o : Op) where
   abbrev x : Rank
   x = rank_in ranks r
 
-  effect_goes : (e f : Effect ℕ) → Alike s ranks due g r j e f → is_proved e ≡ true → effect_at s g r o ≡ f → Goes s g (call_events r t o (called x t e)) (set ranks r (called x t e).state) due
+  effect_goes : (e f : Effect ℕ) → Alike s ranks due g r j e f → is_quiet e ≡ true → effect_at s g r o ≡ f → Goes s g (call_events r t o (called x t e)) (set ranks r (called x t e).state) due
   effect_goes e f (says said) done is = said_goes s ranks due g r t j untold lt here ew o e f x.local (part_of g r).local said is refl refl refl (j.locals r) (λ c z. z)
   effect_goes e f (opens target free) done is = said_goes s ranks due g r t j untold lt here ew o e f _ _ reply.Fine is refl refl refl (with_session s ranks due g r t j untold lt here ew o target free) (λ c z. unbound_by s ranks due g r t j untold lt here ew o target (bound.Session (x.local.opened + 1)) c refl z)
   effect_goes e f (groups target members session free) done is = said_goes s ranks due g r t j untold lt here ew o e f _ _ (reply.Group members) is refl refl refl (with_name s ranks due g r t j untold lt here ew o target (bound.Group members session) (bound.Group members session) free (refl, refl) (λ c. refl)) (λ c z. unbound_by s ranks due g r t j untold lt here ew o target (bound.Group members session) c refl z)
@@ -198,7 +159,7 @@ module _ (s : Setting) (ranks : List Rank) (due : Dues) (g : Registry) (r t : �
   effect_goes e f (awaits name) done is = waits_goes s ranks due g r t j untold lt here ew o e f (Awaiting name) (reg.Awaiting name) x.local (part_of g r).local refl refl (λ serial p e f. absurd (cc (e))) is refl refl refl (j.locals r) (λ c z. z)
   effect_goes e f (grouped z zs tag target session there free apart) done is = grouped_goes s ranks due g r t j untold lt here ew o z zs tag target session there free apart is
   effect_goes e f (duplicated c p session target h free) done is = duplicated_goes s ranks due g r t j untold lt here ew o c p session target h free is
-  effect_goes e f (divided c p session share target h free) done is = absurd (cc (done))
+  effect_goes e f (divided c p session share target h free) done is = divided_goes s ranks due g r t j untold lt here ew o c p session target h free share is
   effect_goes e f (grouped_on c p session tag ms target h within free apart) done is = grouped_on_goes s ranks due g r t j untold lt here ew o c p session tag ms target h within free apart is
   effect_goes e f (frees name c p session h b) done is = frees_goes s ranks due g r t j untold free_due lt here ew o name c p session h b is
   effect_goes e f (ends name session h) done is = ends_goes s ranks due g r t j untold lt here ew o name session h is
@@ -207,13 +168,12 @@ module _ (s : Setting) (ranks : List Rank) (due : Dues) (g : Registry) (r t : �
   effect_goes e f (posts c p session from tag room target h free) done is = absurd (cc (done))
 
   -- the events of the entry that the step of a call writes may come, and what they leave belongs to the ranks
-  pub call_goes : is_proved (effect_of x.setting x.rank (around_here x) x.local o) ≡ true
+  pub call_goes : is_quiet (effect_of x.setting x.rank (around_here x) x.local o) ≡ true
       → Goes s g (act_events r (Call t o) (entry_of x (Call t o) None (step x (Call t o) None))) (set ranks r (step x (Call t o) None).state) due
   unfolding step calls
   call_goes p =
       let e = effect_of x.setting x.rank (around_here x) x.local o in
-      let q = proved_quiet e p in
-      let none : message_events r t o (called x t e).reply ≡ [] = ap (message_events r t o) (said_in x t e q) ∙ no_message x.setting x.rank r t (around_here x) x.local o q in
+      let none : message_events r t o (called x t e).reply ≡ [] = ap (message_events r t o) (said_in x t e p) ∙ no_message x.setting x.rank r t (around_here x) x.local o p in
       rw none (effect_goes e (effect_at s g r o) (effects_alike s ranks due g r j lt o) p refl)
 
 -- The ranks of a world after a choice

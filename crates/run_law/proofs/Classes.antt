@@ -18,7 +18,7 @@ put_in_has f m (x ∷ xs) q = go (int_lt (f x).key (f m).key) (put_in_has f m xs
     go true ih = grind (arith, ih)
     go false ih = grind (arith)
 
-by_key_has : (f : ℕ → Shared1) (ms : List ℕ) (q : ℕ) → has_rank (by_key f ms) q ≡ has_rank ms q
+pub by_key_has : (f : ℕ → Shared1) (ms : List ℕ) (q : ℕ) → has_rank (by_key f ms) q ≡ has_rank ms q
 by_key_has f [] q = refl
 by_key_has f (m ∷ ms) q = let ih = by_key_has f ms q in let p = put_in_has f m (by_key f ms) q in grind (arith, ih, p)
 
@@ -59,6 +59,15 @@ each_member f (m ∷ ms) h =
     let here = h m (grind (arith, nat_tests)) in
     let ih = each_member f ms (λ q k. h q (grind (arith, k))) in
     grind (arith, here, ih)
+
+-- what fails for one member does not hold of all
+pub not_all : (f : ℕ → Bool) (ms : List ℕ) (q : ℕ) → has_rank ms q ≡ true → f q ≡ false → list_all f ms ≡ false
+not_all f [] q h k = absurd (cc (h))
+not_all f (m ∷ ms) q h k = go (m == q) refl (not_all f ms q)
+  where
+    go : (b : Bool) → (m == q) ≡ b → (has_rank ms q ≡ true → f q ≡ false → list_all f ms ≡ false) → list_all f (m ∷ ms) ≡ false
+    go true e ih = let is : m ≡ q = grind (arith, nat_tests, e) in let z : f m ≡ false = rw is k in grind (arith, z)
+    go false e ih = let i = ih (grind (arith, h, e)) k in grind (arith, i)
 
 pub no_member : (f : ℕ → Bool) (ms : List ℕ) → ((q : ℕ) → has_rank ms q ≡ true → f q ≡ false) → list_any f ms ≡ false
 no_member f [] h = refl

@@ -1,7 +1,7 @@
 -- The topic of communicators: what a rank knows of a communicator that is live there; one that it does not know yet was
 -- picked by the key that owns its mask. It reads the registry's communicators, creations and threads, and of a rank its
 -- communicators, its threads, its owner, and what is due to it.
-use Rattle.std.proofs.Common.{◌≡◌, ◌≤◌, ◌<◌, ℕ, ◌==◌, nat_le, not, Bool, true, false, List, get_or, length, Option, Some, None}
+use Rattle.std.proofs.Common.{◌≡◌, ◌≤◌, ◌<◌, ℕ, ◌==◌, ◌&&◌, nat_le, not, Bool, true, false, List, get_or, length, Option, Some, None}
 use Rattle.std.specs.Option.{is_some}
 use Rattle.std.specs.List.{list_any}
 use Rattle.mpi_base.specs.MemberLists.{has_rank}
@@ -51,15 +51,21 @@ CommFits comms creations r owner due c (Some m) None = ⊥
 CommFits comms creations r owner due c None (Some p) = DueComm creations r owner due c p
 CommFits comms creations r owner due c (Some m) (Some p) = KnownComm comms creations r m p
 
--- a thread that waits for a give-back by serial waits for that of the communicator at this place
-pub record FreeFits (comms : List Communicator) (rows : List CommRow) (added r serial p : ℕ) : Type 0 where
-  pub inside : p < length comms
-  pub below : serial ≤ added
-  pub gone : list_any (λ (m : CommRow). m.serial == serial) rows ≡ not (has_rank (comm_in comms p).returned r)
-
--- a row with this serial
+-- a row with this serial, and one with another context too
 abbrev pub is_numbered : ℕ → CommRow → Bool
 is_numbered n m = m.serial == n
+
+abbrev pub is_other : ℕ → ℕ → CommRow → Bool
+is_other n c m = (m.serial == n) && not (m.ctx == c)
+
+-- a thread that waits for a give-back by serial waits for that of the communicator at this place, which is of the rank; no row
+-- of another context has the serial
+pub record FreeFits (comms : List Communicator) (rows : List CommRow) (added r serial p : ℕ) : Type 0 where
+  pub inside : p < length comms
+  pub member : has_rank (comm_in comms p).members r ≡ true
+  pub below : serial ≤ added
+  pub own : list_any (is_other serial (comm_in comms p).ctx) rows ≡ false
+  pub gone : list_any (is_numbered serial) rows ≡ not (has_rank (comm_in comms p).returned r)
 
 pub record CommsFit (top : ℕ) (comms : List Communicator) (creations : List Creation) (parts : List ThreadPart) (r : ℕ) (rows : List CommRow) (added : ℕ) (owner : Option Key) (due : Key → Option Verdict) (threads : List ThreadRow) : Type 0 where
   pub each : (c : ℕ) → CommFits comms creations r owner due c (row_in rows c) (comm_of comms r c)

@@ -1,5 +1,5 @@
 -- The call that ends a session, where it is not refused.
-use Rattle.std.proofs.Common.{◌≡◌, ◌≢◌, ◌⊎◌, ◌<◌, ℕ, ◌==◌, not, if◌then◌else◌, Bool, true, false, List, [], ◌∷◌, option_map, length, get_or, set, Option, Some, None, refl, sym, ap, ◌∙◌, subst, inl, inr, arith, filter}
+use Rattle.std.proofs.Common.{◌≡◌, ◌≢◌, ◌⊎◌, ◌<◌, ℕ, ◌==◌, ◌&&◌, not, if◌then◌else◌, Bool, true, false, List, [], ◌∷◌, option_map, length, get_or, set, Option, Some, None, refl, sym, ap, ◌∙◌, subst, inl, inr, arith, filter}
 use Rattle.std.specs.Option.{is_some}
 use Rattle.std.specs.List.{list_any}
 use Rattle.std.proofs.lemmas.Bool.Decides.{nat_tests}
@@ -25,7 +25,7 @@ use Rattle.agree_law.specs.declared.rows.Verdict.{Verdict}
 use Rattle.agree_law.specs.declared.rows.Verdict.TheVariants.{Ready, Retry, Context, Exhausted}
 use Rattle.agree_law.specs.Part.{stage_of}
 use Rattle.comm_law.specs.declared.rows.CommRow.{CommRow}
-use Rattle.comm_law.specs.Comms.{Comms as Known, freed, free_session}
+use Rattle.comm_law.specs.Comms.{Comms as Known, freed, freed_stage, free_session}
 use Rattle.mpi_protocol.specs.declared.rows.Waits.TheVariants.{Nothing, Creation as Creates, Freeing, Ending}
 use Rattle.mpi_protocol.specs.declared.rows.ThreadRow.{ThreadRow}
 use Rattle.mpi_protocol.specs.Rank.{Rank, idle_thread, has_open_of, creates as rank_creates}
@@ -47,8 +47,9 @@ use Rattle.run_law.proofs.OneThread.{thread_joined, waited, back}
 use Rattle.run_law.proofs.Joins.{calling_row}
 use Rattle.run_law.proofs.CallParts.{may_call, parts_call}
 use Rattle.run_law.proofs.CallSteps.{call_events, called_part, counted as called_more, plain, busy, any_at}
-use Rattle.run_law.proofs.Freed.{Freed, kept, stands_same, stay, freed_else, known_freed, waits_freed, freed_more}
-use Rattle.run_law.proofs.FreedRows.{freed_row, row_freed, serial_freed, serials_freed, freed_dead, session_freed}
+use Rattle.run_law.proofs.Freed.{Freed, kept, stands_same, stay, freed_else, freed_same, waits_freed, freed_more}
+use Rattle.run_law.proofs.SameComms.{known_same}
+use Rattle.run_law.proofs.StagedRows.{staged_row, row_staged, any_staged, serials_staged, freed_dead, session_freed}
 use Rattle.run_law.proofs.FreedSteps.{freed_joined}
 use Rattle.run_law.proofs.SettleSteps.{Goes}
 use Rattle.local_law.specs.Objects.{is_of, close_session}
@@ -158,13 +159,13 @@ module _ (s : Setting) (ranks : List Rank) (due : Dues) (g : Registry) (r t : �
   abbrev of_session : CommRow → Bool
   of_session z = z.session == session
 
-  rows_are : (d : ℕ) → row_in known.rows d ≡ option_map (freed_row of_session) (row_in x.comms.rows d)
-  rows_are d = ap (λ (ms : List CommRow). row_in ms d) (session_freed x.comms session) ∙ row_freed x.comms.rows of_session d
+  rows_are : (d : ℕ) → row_in known.rows d ≡ option_map (staged_row freed_stage of_session) (row_in x.comms.rows d)
+  rows_are d = ap (λ (ms : List CommRow). row_in ms d) (session_freed x.comms session) ∙ row_staged freed_stage x.comms.rows of_session d
 
   same : (d : ℕ) → is_some (row_in known.rows d) ≡ is_some (row_in x.comms.rows d)
   same d = rw (rows_are d) (go (row_in x.comms.rows d))
     where
-      go : (o : Option CommRow) → is_some (option_map (freed_row of_session) o) ≡ is_some o
+      go : (o : Option CommRow) → is_some (option_map (staged_row freed_stage of_session) o) ≡ is_some o
       go None = refl
       go (Some z) = refl
 
@@ -217,20 +218,24 @@ module _ (s : Setting) (ranks : List Rank) (due : Dues) (g : Registry) (r t : �
       staged v (Some (Done (ended.Context a))) z = z.1.0.session_is
 
   -- what the rank knows
+  -- serials and contexts stay
+  numbers : (P : ℕ → ℕ → Bool) → list_any (λ (y : CommRow). P y.serial y.ctx) known.rows ≡ list_any (λ (y : CommRow). P y.serial y.ctx) x.comms.rows
+  numbers P = ap (λ (ms : List CommRow). list_any (λ (y : CommRow). P y.serial y.ctx) ms) (session_freed x.comms session) ∙ any_staged freed_stage x.comms.rows of_session P
+
   comms_here : CommsFit s.contexts cs g.creations (get_or new r blank_part).threads r known.rows known.added x.agree.owner (due r) first.threads
-  unfolding freed_row
+  unfolding staged_row
   comms_here =
       record {
         each = λ d. rw (stands_same g.comms cs r hit freed_here r d, rows_are d) (each d (row_in x.comms.rows d) refl (comm_of g.comms r d) refl (old.each d));
         range = λ d e. old.range d (ap is_some (sym (stands_same g.comms cs r hit freed_here r d)) ∙ e);
-        freeing = λ u i q fw fp. (let k = waits_freed g.comms cs r hit freed_here x.comms.rows x.comms.added r i q (old.freeing u i q fw fp) in record { inside = k.inside; below = k.below; gone = ap (λ (ms : List CommRow). list_any (λ (y : CommRow). y.serial == i) ms) (session_freed x.comms session) ∙ (serial_freed x.comms.rows of_session i ∙ k.gone) });
-        serials = λ n. (let a = serials_freed x.comms.rows of_session n in let o = old.serials n in let e = ap (λ (ms : List CommRow). tally (is_numbered n) ms) (session_freed x.comms session) in omega (arith, a, o, e));
+        freeing = λ u i q fw fp. (let k = waits_freed g.comms cs r hit freed_here x.comms.rows x.comms.added r i q (old.freeing u i q fw fp) in record { inside = k.inside; below = k.below; member = k.member; own = numbers (λ n b. (n == i) && not (b == (comm_in cs q).ctx)) ∙ k.own; gone = numbers (λ n b. n == i) ∙ k.gone });
+        serials = λ n. (let a = serials_staged freed_stage x.comms.rows of_session n in let o = old.serials n in let e = ap (λ (ms : List CommRow). tally (is_numbered n) ms) (session_freed x.comms session) in omega (arith, a, o, e));
       }
     where
       old : CommsFit s.contexts g.comms g.creations (get_or new r blank_part).threads r x.comms.rows x.comms.added x.agree.owner (due r) first.threads
       old = subst (λ (z : Rank). CommsFit s.contexts g.comms g.creations (get_or new r blank_part).threads r z.comms.rows z.comms.added z.agree.owner (due r) z.threads) first_is (first_joined.comms r)
 
-      at_row : (d q : ℕ) (y : CommRow) → comm_of g.comms r d ≡ Some q → KnownComm g.comms g.creations r y q → KnownComm cs g.creations r (freed_row of_session y) q
+      at_row : (d q : ℕ) (y : CommRow) → comm_of g.comms r d ≡ Some q → KnownComm g.comms g.creations r y q → KnownComm cs g.creations r (staged_row freed_stage of_session y) q
       at_row d q y e k = go (y.session == session) refl
         where
           live : has_rank (comm_in g.comms q).members r ≡ true
@@ -250,7 +255,7 @@ module _ (s : Setting) (ranks : List Rank) (due : Dues) (g : Registry) (r t : �
           go false f =
               let its : (session_at (comm_in g.comms q) r == session) ≡ false = rw (← k.session) f in
               let ne : hit q ≡ false = grind (arith, its) in
-              known_freed g.comms cs r hit freed_here g.creations r y q (λ z w. cc (z, ne)) k
+              known_same g.comms cs r _ (freed_same g.comms cs r hit freed_here) g.creations y q (λ z. cc (z, ne)) k
           go true f =
               record {
                 members = k.members ∙ sym (kept g.comms cs r hit freed_here (λ a ms ss back. ms) q);
@@ -259,7 +264,7 @@ module _ (s : Setting) (ranks : List Rank) (due : Dues) (g : Registry) (r t : �
                 stage = freed_dead y.stage ∙ ap not (sym (has f (has_rank (comm_in g.comms q).freed r) refl));
               }
 
-      each : (d : ℕ) (o : Option CommRow) → row_in x.comms.rows d ≡ o → (q : Option ℕ) → comm_of g.comms r d ≡ q → CommFits g.comms g.creations r x.agree.owner (due r) d o q → CommFits cs g.creations r x.agree.owner (due r) d (option_map (freed_row of_session) o) q
+      each : (d : ℕ) (o : Option CommRow) → row_in x.comms.rows d ≡ o → (q : Option ℕ) → comm_of g.comms r d ≡ q → CommFits g.comms g.creations r x.agree.owner (due r) d o q → CommFits cs g.creations r x.agree.owner (due r) d (option_map (staged_row freed_stage of_session) o) q
       each d None eo None eq k = tt
       each d (Some y) eo None eq k = k
       each d None eo (Some q) eq k = k

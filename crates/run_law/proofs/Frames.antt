@@ -120,7 +120,7 @@ module _ (comms more : List Communicator) (g : Grown comms more) where
       record { members = rw e h.members; session = rw e h.session; calls = h.calls ∙ sym counts; stage = rw e h.stage }
 
   pub free-grown : (rows : List CommRow) (added r serial p : ℕ) → FreeFits comms rows added r serial p → FreeFits more rows added r serial p
-  free-grown rows added r serial p h = record { inside = (let l = g.longer in let i = h.inside in omega (arith, l, i)); below = h.below; gone = rw (g.same p h.inside) h.gone }
+  free-grown rows added r serial p h = record { inside = (let l = g.longer in let i = h.inside in omega (arith, l, i)); member = rw (g.same p h.inside) h.member; below = h.below; own = rw (g.same p h.inside) h.own; gone = rw (g.same p h.inside) h.gone }
 
   pub group-grown : (name : CreationName) (group : List ℕ) → GroupFits comms name group → GroupFits more name group
   group-grown (Group_and_tag ms tag) group h = h

@@ -1,5 +1,5 @@
 -- The call of `free`, where it is not refused.
-use Rattle.std.proofs.Common.{◌≡◌, ◌≢◌, ◌⊎◌, ◌<◌, ◌≤◌, ℕ, ◌==◌, ◌||◌, nat_le, not, if◌then◌else◌, Bool, true, false, List, [], ◌∷◌, option_map, length, get_or, set, Option, Some, None, refl, sym, ap, ◌∙◌, subst, inl, inr, arith, length-set}
+use Rattle.std.proofs.Common.{◌≡◌, ◌≢◌, ◌⊎◌, ◌<◌, ◌≤◌, ℕ, ◌==◌, ◌&&◌, ◌||◌, nat_le, not, if◌then◌else◌, Bool, true, false, List, [], ◌∷◌, option_map, length, get_or, set, Option, Some, None, refl, sym, ap, ◌∙◌, subst, inl, inr, arith, length-set}
 use Rattle.std.specs.Option.{is_some, is_none}
 use Rattle.std.specs.List.{list_any}
 use Rattle.std.proofs.lemmas.Bool.Decides.{nat_tests}
@@ -25,14 +25,14 @@ use Rattle.agree_law.specs.declared.rows.Verdict.{Verdict}
 use Rattle.agree_law.specs.declared.rows.Verdict.TheVariants.{Ready, Retry, Context, Exhausted}
 use Rattle.agree_law.specs.Part.{stage_of}
 use Rattle.comm_law.specs.declared.rows.CommRow.{CommRow}
-use Rattle.comm_law.specs.Comms.{Comms as Known, comm_at, mark_free, freed}
+use Rattle.comm_law.specs.Comms.{Comms as Known, comm_at, mark_free, freed, freed_stage}
 use Rattle.mpi_protocol.specs.declared.rows.Waits.TheVariants.{Nothing, Creation as Creates, Freeing}
 use Rattle.mpi_protocol.specs.declared.rows.ThreadRow.{ThreadRow}
 use Rattle.mpi_protocol.specs.Rank.{Rank}
 use Rattle.mpi_protocol.specs.Calls.{called}
 use Rattle.run_law.proofs.Lists.{tally, one}
 use Rattle.run_law.proofs.Rows.{row_in}
-use Rattle.run_law.proofs.Contexts.{comm_of_is, has_rank-append}
+use Rattle.run_law.proofs.Contexts.{comm_of_is, live_member, has_rank-append}
 use Rattle.run_law.proofs.Dues.{Dues}
 use Rattle.run_law.proofs.Locals.{CommNamed, BoundFits, NamesFit, LocalFits, is_comm, binds}
 use Rattle.run_law.proofs.Threads.{row_of}
@@ -48,9 +48,10 @@ use Rattle.run_law.proofs.OneThread.{thread_joined, waited, back}
 use Rattle.run_law.proofs.Joins.{calling_row}
 use Rattle.run_law.proofs.CallParts.{may_call, parts_call}
 use Rattle.run_law.proofs.CallSteps.{call_events, called_part, counted as called_more, plain, busy, without_name}
-use Rattle.run_law.proofs.DupSteps.{row_ctx}
-use Rattle.run_law.proofs.Freed.{Freed, kept, stands_same, stay, freed_else, known_freed, waits_freed}
-use Rattle.run_law.proofs.FreedRows.{freed_row, row_freed, serial_freed, serials_freed, mark_is, own_serial, freed_dead}
+use Rattle.run_law.proofs.CountedRows.{row_ctx}
+use Rattle.run_law.proofs.Freed.{Freed, kept, stands_same, stay, freed_else, freed_same, waits_freed}
+use Rattle.run_law.proofs.SameComms.{known_same}
+use Rattle.run_law.proofs.StagedRows.{staged_row, row_staged, any_staged, serials_staged, mark_is, own_serial, own_alone, freed_dead}
 use Rattle.run_law.proofs.FreedSteps.{freed_joined}
 use Rattle.run_law.proofs.SettleSteps.{Goes}
 
@@ -99,8 +100,13 @@ module _ (s : Setting) (ranks : List Rank) (due : Dues) (g : Registry) (r t : �
       let n : nat_le known_here.row.serial x.comms.added ≡ true = at (nat_le known_here.row.serial x.comms.added) refl few own.1 in
       let kept_here : has_rank (comm_in g.comms p).returned r ≡ false = grind (arith, live) in
       let is : serial ≡ known_here.row.serial = ap (λ (z : CommRow). z.serial) row_is in
-      record { inside = there; below = rw is (grind (arith, nat_tests, n)); gone = rw (is, kept_here) own.0 }
+      let ctx = (comm_of_is g.comms r c p h.stands).context in
+      record { inside = there; member = live_member (comm_in g.comms p) r live; below = rw is (grind (arith, nat_tests, n)); own = rw (is, ctx) (own_alone x.comms.rows c known_here.row known_here.is (few_one (nat_le known_here.row.serial x.comms.added) few)); gone = rw (is, kept_here) own.0 }
     where
+      few_one : (v : Bool) → tally (is_numbered known_here.row.serial) x.comms.rows ≤ one v → tally (is_numbered known_here.row.serial) x.comms.rows ≤ 1
+      few_one true few = few
+      few_one false few = omega (arith, few)
+
       at : (v : Bool) → nat_le known_here.row.serial x.comms.added ≡ v → tally (is_numbered known_here.row.serial) x.comms.rows ≤ one (nat_le known_here.row.serial x.comms.added) → 1 ≤ tally (is_numbered known_here.row.serial) x.comms.rows → nat_le known_here.row.serial x.comms.added ≡ true
       at true e few own = e
       at false e few own = absurd (let o : one (nat_le known_here.row.serial x.comms.added) ≡ 0 = ap one e in omega (arith, few, own, o))
@@ -146,13 +152,13 @@ module _ (s : Setting) (ranks : List Rank) (due : Dues) (g : Registry) (r t : �
   abbrev known : Known
   known = mark_free x.comms c
 
-  rows_are : (d : ℕ) → row_in known.rows d ≡ option_map (freed_row (λ z. z.ctx == c)) (row_in x.comms.rows d)
-  rows_are d = ap (λ (ms : List CommRow). row_in ms d) (mark_is x.comms c) ∙ row_freed x.comms.rows (λ z. z.ctx == c) d
+  rows_are : (d : ℕ) → row_in known.rows d ≡ option_map (staged_row freed_stage (λ z. z.ctx == c)) (row_in x.comms.rows d)
+  rows_are d = ap (λ (ms : List CommRow). row_in ms d) (mark_is x.comms c) ∙ row_staged freed_stage x.comms.rows (λ z. z.ctx == c) d
 
   same : (d : ℕ) → is_some (row_in known.rows d) ≡ is_some (row_in x.comms.rows d)
   same d = rw (rows_are d) (go (row_in x.comms.rows d))
     where
-      go : (o : Option CommRow) → is_some (option_map (freed_row (λ z. z.ctx == c)) o) ≡ is_some o
+      go : (o : Option CommRow) → is_some (option_map (staged_row freed_stage (λ z. z.ctx == c)) o) ≡ is_some o
       go None = refl
       go (Some z) = refl
 
@@ -251,26 +257,30 @@ module _ (s : Setting) (ranks : List Rank) (due : Dues) (g : Registry) (r t : �
           absurd (omega (arith, none, some))
 
   -- what the rank knows
+  -- serials and contexts stay
+  numbers : (P : ℕ → ℕ → Bool) → list_any (λ (y : CommRow). P y.serial y.ctx) known.rows ≡ list_any (λ (y : CommRow). P y.serial y.ctx) x.comms.rows
+  numbers P = ap (λ (ms : List CommRow). list_any (λ (y : CommRow). P y.serial y.ctx) ms) (mark_is x.comms c) ∙ any_staged freed_stage x.comms.rows (λ z. z.ctx == c) P
+
   comms_here : CommsFit s.contexts cs g.creations (get_or new r blank_part).threads r known.rows known.added x.agree.owner (due r) first.threads
-  unfolding freed_row
+  unfolding staged_row
   comms_here =
       record {
         each = λ d. rw (stands_same g.comms cs r hit freed_here r d, rows_are d) (each d (row_in x.comms.rows d) refl (comm_of g.comms r d) refl (old.each d));
         range = λ d e. old.range d (ap is_some (sym (stands_same g.comms cs r hit freed_here r d)) ∙ e);
-        freeing = λ u i q fw fp. (let k = waits_freed g.comms cs r hit freed_here x.comms.rows x.comms.added r i q (old.freeing u i q fw fp) in record { inside = k.inside; below = k.below; gone = ap (λ (ms : List CommRow). list_any (λ (y : CommRow). y.serial == i) ms) (mark_is x.comms c) ∙ (serial_freed x.comms.rows (λ z. z.ctx == c) i ∙ k.gone) });
-        serials = λ n. (let a = serials_freed x.comms.rows (λ z. z.ctx == c) n in let o = old.serials n in let e = ap (λ (ms : List CommRow). tally (is_numbered n) ms) (mark_is x.comms c) in omega (arith, a, o, e));
+        freeing = λ u i q fw fp. (let k = waits_freed g.comms cs r hit freed_here x.comms.rows x.comms.added r i q (old.freeing u i q fw fp) in record { inside = k.inside; below = k.below; member = k.member; own = numbers (λ n b. (n == i) && not (b == (comm_in cs q).ctx)) ∙ k.own; gone = numbers (λ n b. n == i) ∙ k.gone });
+        serials = λ n. (let a = serials_staged freed_stage x.comms.rows (λ z. z.ctx == c) n in let o = old.serials n in let e = ap (λ (ms : List CommRow). tally (is_numbered n) ms) (mark_is x.comms c) in omega (arith, a, o, e));
       }
     where
       old : CommsFit s.contexts g.comms g.creations (get_or new r blank_part).threads r x.comms.rows x.comms.added x.agree.owner (due r) first.threads
       old = subst (λ (z : Rank). CommsFit s.contexts g.comms g.creations (get_or new r blank_part).threads r z.comms.rows z.comms.added z.agree.owner (due r) z.threads) first_is (first_joined.comms r)
 
-      at_row : (d q : ℕ) (y : CommRow) → y.ctx ≡ d → comm_of g.comms r d ≡ Some q → KnownComm g.comms g.creations r y q → KnownComm cs g.creations r (freed_row (λ z. z.ctx == c) y) q
+      at_row : (d q : ℕ) (y : CommRow) → y.ctx ≡ d → comm_of g.comms r d ≡ Some q → KnownComm g.comms g.creations r y q → KnownComm cs g.creations r (staged_row freed_stage (λ z. z.ctx == c) y) q
       at_row d q y ctx e k = go (y.ctx == c) refl
         where
           go : (v : Bool) → (y.ctx == c) ≡ v → KnownComm cs g.creations r (if v then freed y else y) q
           go false f =
               let ne : (q == p) ≡ false = one_context d q e ∙ (rw (← ctx) f) in
-              known_freed g.comms cs r hit freed_here g.creations r y q (λ z w. cc (z, ne)) k
+              known_same g.comms cs r _ (freed_same g.comms cs r hit freed_here) g.creations y q (λ z. cc (z, ne)) k
           go true f =
               let on : (q == p) ≡ true = one_context d q e ∙ (rw (← ctx) f) in
               let self : (r == r) ≡ true = grind (arith, nat_tests) in
@@ -287,7 +297,7 @@ module _ (s : Setting) (ranks : List Rank) (due : Dues) (g : Registry) (r t : �
               last true = refl
               last false = refl
 
-      each : (d : ℕ) (o : Option CommRow) → row_in x.comms.rows d ≡ o → (q : Option ℕ) → comm_of g.comms r d ≡ q → CommFits g.comms g.creations r x.agree.owner (due r) d o q → CommFits cs g.creations r x.agree.owner (due r) d (option_map (freed_row (λ z. z.ctx == c)) o) q
+      each : (d : ℕ) (o : Option CommRow) → row_in x.comms.rows d ≡ o → (q : Option ℕ) → comm_of g.comms r d ≡ q → CommFits g.comms g.creations r x.agree.owner (due r) d o q → CommFits cs g.creations r x.agree.owner (due r) d (option_map (staged_row freed_stage (λ z. z.ctx == c)) o) q
       each d None eo None eq k = tt
       each d (Some y) eo None eq k = k
       each d None eo (Some q) eq k = k

@@ -19,6 +19,7 @@ use Rattle.mpi_law.specs.Registry.Creations.{parent_of, same_name, is_split, is_
 use Rattle.mpi_law.specs.Registry.Contexts.{comm_of, stands_for}
 use Rattle.mpi_law.specs.Registry.Calls.{effect_at}
 use Rattle.mpi_law.specs.Registry.Events.{registry_next}
+use Rattle.agree_law.specs.declared.rows.Stage.TheVariants.{Called}
 use Rattle.agree_law.specs.Part.{stage_of}
 use Rattle.agree_law.specs.Offers.{begin}
 use Rattle.comm_law.specs.declared.rows.CommRow.{CommRow}
@@ -40,7 +41,7 @@ use Rattle.run_law.proofs.Agreed.{Untold}
 use Rattle.run_law.proofs.Waiters.{thread_inside}
 use Rattle.run_law.proofs.Parts.{thread_in, PartsAfter}
 use Rattle.run_law.proofs.JoinWholes.{rows, counts}
-use Rattle.run_law.proofs.Joins.{join_joined}
+use Rattle.run_law.proofs.Joins.{calls, join_joined}
 use Rattle.run_law.proofs.OpenHere.{open_on_agrees}
 use Rattle.run_law.proofs.CallParts.{idle, may_call, parts_call}
 use Rattle.run_law.proofs.CallSteps.{call_events, none_for, any_at, none_stage, begin_part, held, still_unbound}
@@ -111,6 +112,9 @@ module _ (s : Setting) (ranks : List Rank) (due : Dues) (g : Registry) (r t : �
   inside_all : list_all (has_rank (comm_in g.comms p).members) ms ≡ true
   inside_all = grind (arith, within)
 
+  alone : is_split name ≡ true → (i : ℕ) → i < length g.creations → (creation_in g.creations i).name ≡ name → has_called (creation_in g.creations i) r ≡ false
+  alone e i li named = absurd (cc (e))
+
   number : (q : ℕ) → is_counted_on q name ≡ true → number_in name ≡ called_on g.creations q r
   number q e = absurd (cc (e))
 
@@ -133,10 +137,10 @@ module _ (s : Setting) (ranks : List Rank) (due : Dues) (g : Registry) (r t : �
   parts = parts_call s ranks due g r t j lt here ew m (Creating at)
 
   abbrev after : List Creation
-  after = rows s ranks due g r t target session name ms m new j here (idle s ranks due g r t j lt here ew) refl fits fresh number under parts
+  after = rows s ranks due g r t target session name ms m new j here (idle s ranks due g r t j lt here ew) None alone member fits fresh number under parts
 
   same : (q : ℕ) → called_on after q r ≡ called_on g.creations q r
-  same q = let e = counts s ranks due g r t target session name ms m new j here (idle s ranks due g r t j lt here ew) refl fits fresh number under parts q r in omega (arith, e)
+  same q = let e = counts s ranks due g r t target session name ms m new j here (idle s ranks due g r t j lt here ew) None alone member fits fresh number under parts q r in omega (arith, e)
 
   comms : CommsFit s.contexts g.comms after (get_or g.ranks r blank_part).threads r x.comms.rows x.comms.added x.agree.owner (due r) x.threads
   comms = record { each = λ b. each b (row_in x.comms.rows b) (comm_of g.comms r b) ((j.comms r).each b); range = (j.comms r).range; freeing = (j.comms r).freeing; serials = (j.comms r).serials }
@@ -153,7 +157,7 @@ module _ (s : Setting) (ranks : List Rank) (due : Dues) (g : Registry) (r t : �
       let b = begin_part x.rank x.setting.contexts x.agree key in
       rw is (
         (may_call s ranks due g r t j lt here ew op (ask (GroupedOn p tag ms) target session) false is refl, tt),
-        join_joined s ranks due g r t target session name ms m new j here (idle s ranks due g r t j lt here ew) refl fits fresh number under parts key
-            (begin x.rank x.setting.contexts x.agree key).part x.comms (with_names x.local (bind x.local.names target bound.Reserved)) lt ew b.0 b.1 (rw b.2 (j.masks r lt)) stands refl closed (untold r key closed) member refl
+        join_joined s ranks due g r t target session name ms m new j here (idle s ranks due g r t j lt here ew) None alone member fits fresh number under parts key Called
+            (begin x.rank x.setting.contexts x.agree key).part x.comms (with_names x.local (bind x.local.names target bound.Reserved)) lt ew b.0 b.1 (rw b.2 (j.masks r lt)) stands (calls refl refl) closed (untold r key closed) member refl
             (λ d y. y) (held s ranks due g r t j untold lt here ew op target free) (λ d y. still_unbound s ranks due g r t j untold lt here ew op target d y) comms,
       )

@@ -84,11 +84,25 @@ any_tally p q (x ∷ xs) (y ∷ ys) d e l f =
     let h = f 0 (omega arith) in
     grind (arith, nat_tests, ih, h)
 
+-- a test that no item passes
+pub none_at : {A : Type 0} (p : A → Bool) (xs : List A) (d : A) → ((i : ℕ) → i < length xs → p (get_or xs i d) ≡ false) → list_any p xs ≡ false
+none_at p [] d h = refl
+none_at p (x ∷ xs) d h =
+    let here : p x ≡ false = h 0 (omega arith) in
+    let rest = none_at p xs d (λ i lt. h (suc i) (omega (arith, lt))) in
+    grind (arith, here, rest)
+
 -- AllByRecursion
 
 pub All_map : {A : Type 0} (P Q : A → Type 0) (xs : List A) → ((x : A) → P x → Q x) → AllByRecursion P xs → AllByRecursion Q xs
 All_map P Q [] f h = tt
 All_map P Q (x ∷ xs) f h = (f x h.0, All_map P Q xs f h.1)
+
+-- at a place, or where the default passes
+pub All_at : {A : Type 0} (P : A → Type 0) (xs : List A) (d : A) (i : ℕ) → AllByRecursion P xs → P d → P (get_or xs i d)
+All_at P [] d i h k = k
+All_at P (x ∷ xs) d zero h k = h.0
+All_at P (x ∷ xs) d (suc i) h k = All_at P xs d i h.1 k
 
 pub All_snoc : {A : Type 0} (P : A → Type 0) (xs : List A) (y : A) → AllByRecursion P xs → P y → AllByRecursion P (xs ++ y ∷ [])
 All_snoc P [] y h k = (k, tt)

@@ -142,6 +142,7 @@ module _ (s : Setting) (ranks : List Rank) (due : Dues) (g : Registry) (r t : â„
       apart = j.whole.apart;
       one_open = j.whole.one_open;
       for_all = j.whole.for_all;
+      unpicked = j.whole.unpicked;
       made_inside = j.whole.made_inside;
       made_once = j.whole.made_once;
       numbered = j.whole.numbered;

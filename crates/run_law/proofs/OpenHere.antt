@@ -64,7 +64,7 @@ module _ (s : Setting) (ranks : List Rank) (due : Dues) (g : Registry) (r : ℕ)
   x = rank_in ranks r
 
   -- by any test that agrees at each thread that waits for a creation
-  open_same : (test : Creation → Bool) (mine : Key → ℕ → Bool)
+  pub open_same : (test : Creation → Bool) (mine : Key → ℕ → Bool)
       → ((i : ℕ) (k : Key) (target : List ℕ) (session n : ℕ) → stands_for g.comms r k ≡ Some (creation_at g n).name → CallerFits (creation_at g n).callers r i target session → test (creation_at g n) ≡ mine k session)
       → has_open g r test ≡ ranks_rank.has_open x.threads mine
   open_same test mine same =

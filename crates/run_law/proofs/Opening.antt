@@ -61,6 +61,10 @@ module _ (s : Setting) where
       go true e = subst P (sym (map_range_at (fresh s) blank 0 s.ranks r (grind (arith, nat_tests, e)))) (h s (0 + r))
       go false e = subst P (sym (map_range_past (fresh s) blank 0 s.ranks r (grind (arith, nat_tests, e)))) (h _ 0)
 
+  pub each_fresh : (P : Rank → Type 0) → ((z : Setting) (q : ℕ) → P (fresh z q)) → (r : ℕ) → P (rank_in (opening s).ranks r)
+  unfolding ranks
+  each_fresh = each
+
   at : (r : ℕ) → r < s.ranks → rank_in ranks r ≡ fresh s r
   unfolding ranks
   at r lt = map_range_at (fresh s) blank 0 s.ranks r lt ∙ ap (fresh s) (omega arith)
@@ -103,6 +107,7 @@ module _ (s : Setting) where
       apart = λ p q r lp lq hp hq e. absurd (omega (arith, lp));
       one_open = λ n m ln lm e a b. absurd (omega (arith, ln));
       for_all = λ n r ln a b c. absurd (omega (arith, ln));
+      unpicked = λ n ln a b. absurd (omega (arith, ln));
       made_inside = λ n r p ln e. absurd (omega (arith, ln));
       made_once = λ n m r p ln lm e f. absurd (omega (arith, ln));
       numbered = λ n r p ln on c. absurd (omega (arith, ln));

@@ -7,7 +7,7 @@ use Rattle.mpi_base.specs.MemberLists.{has_rank}
 use Rattle.mpi_law.specs.declared.setting.Setting.{Setting}
 use Rattle.mpi_law.specs.Registry.State as reg
 use Rattle.mpi_law.specs.Registry.State.{Registry, Communicator, Creation, CreationName, Creating, Outcome, Made, Pick, blank_part, blank_comm}
-use Rattle.mpi_law.specs.Registry.Creations.{is_split, is_nil, caller_of, has_called, called_on, class_of, outcome_for, is_counted_on}
+use Rattle.mpi_law.specs.Registry.Creations.{is_split, is_nil, caller_of, has_called, all_called, called_on, class_of, outcome_for, is_counted_on}
 use Rattle.mpi_law.specs.Registry.Contexts.{comm_of}
 use Rattle.agree_law.specs.declared.rows.Verdict.{Verdict}
 use Rattle.agree_law.specs.declared.rows.Verdict.TheVariants.{Context}
@@ -89,6 +89,7 @@ module _ (s : Setting) (ranks : List Rank) (due : Dues) (g : Registry) (key : Ke
     one_open = λ n m ln lm e on om. j.whole.one_open n m (inside n ln) (inside m lm) (sym (name_kept n) ∙ (e ∙ name_kept m)) (open_kept n on) (open_kept m om);
     made_inside = λ n r p ln e. made_in n r p ln e;
     made_once = λ n m r p ln lm e f. once n m r p ln lm e f;
+    unpicked = λ n ln sp left. not_yet n ln sp left (row_is n);
     for_all = λ n r ln sp m none. all_of n r ln sp m none (row_is n);
     numbered = λ n r p ln on c. (let i = j.whole.numbered n r p (inside n ln) (sym (kept (λ x y z. is_counted_on p x) n) ∙ on) (sym (kept (λ x y z. list_any (λ (k : reg.Caller). k.rank == r) z) n) ∙ c) in let e = counts p r in let f = kept (λ x y z. number_in x) n in omega (arith, i, e, f));
     group_is = λ n ln. rw (kept (λ x y z. x) n, kept (λ x y z. y) n) (group-grown g.comms more grown (creation_in g.creations n).name (creation_in g.creations n).group (j.whole.group_is n (inside n ln)));
@@ -113,6 +114,10 @@ module _ (s : Setting) (ranks : List Rank) (due : Dues) (g : Registry) (key : Ke
           go (inr x) (inr y) = x.place ∙ sym y.place
           go (inl x) (inr y) = absurd (let i = j.whole.made_inside n r p (inside n ln) x in let z = (fresh p y.made_is).0 in omega (arith, i, z))
           go (inr x) (inl y) = absurd (let i = j.whole.made_inside m r p (inside m lm) y in let z = (fresh p x.made_is).0 in omega (arith, i, z))
+
+      not_yet : (n : ℕ) → n < length after → is_split (creation_in after n).name ≡ true → all_called (creation_in after n) ≡ false → ((n ≡ d.place) × (creation_in after n ≡ made)) ⊎ ((n ≢ d.place) × (creation_in after n ≡ creation_in g.creations n)) → is_nil (creation_in after n).picks ≡ true
+      not_yet n ln sp left (inr x) = rw x.1 (j.whole.unpicked n (inside n ln) (rw x.1 at sp) (rw x.1 at left))
+      not_yet n ln sp left (inl x) = absurd (let a : all_called (creation_in g.creations d.place) ≡ false = rw x.1 at left in let b = d.all in cc (a, b))
 
       all_of : (n r : ℕ) → n < length after → is_split (creation_in after n).name ≡ false → has_rank (creation_in after n).group r ≡ true → outcome_for (creation_in after n) r ≡ None
           → ((n ≡ d.place) × (creation_in after n ≡ made)) ⊎ ((n ≢ d.place) × (creation_in after n ≡ creation_in g.creations n)) → is_nil (creation_in after n).picks ≡ true

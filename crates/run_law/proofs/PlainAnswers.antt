@@ -33,7 +33,7 @@ module _ (s : Setting) (ranks : List Rank) (due : Dues) (g : Registry) (r t : �
   x = rank_in ranks r
 
   -- the thread waits for nothing more
-  idle_goes : (said : Reply) (b : Wait) → (thread_in g.ranks r t).wait ≡ b → is_creation (row_of x.threads t).waits ≡ false → owed_to g r b ≡ Some said → registry_answer.answers g r b ≡ g
+  pub idle_goes : (said : Reply) (b : Wait) → (thread_in g.ranks r t).wait ≡ b → is_creation (row_of x.threads t).waits ≡ false → owed_to g r b ≡ Some said → registry_answer.answers g r b ≡ g
       → Goes s g (reply_events r t (answers x t said).reply) (set ranks r (answers x t said).state) due
   unfolding registry_next
   idle_goes said b is old owed stays = (
@@ -45,7 +45,7 @@ module _ (s : Setting) (ranks : List Rank) (due : Dues) (g : Registry) (r t : �
   )
 
   -- what the registry's thread waits for
-  waits_too : (a : Waits) (b : Wait) → (row_of x.threads t).waits ≡ a → (thread_in g.ranks r t).wait ≡ b → WaitFits a b
+  pub waits_too : (a : Waits) (b : Wait) → (row_of x.threads t).waits ≡ a → (thread_in g.ranks r t).wait ≡ b → WaitFits a b
   waits_too a b ea eb = subst (λ (w : Waits). WaitFits w b) ea (subst (λ (w : Wait). WaitFits (row_of x.threads t).waits w) eb ((j.threads r).waits t))
 
   -- a communicator is given back

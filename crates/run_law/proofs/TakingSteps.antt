@@ -20,7 +20,8 @@ use Rattle.comm_law.specs.Comms.{Comms as Known, add}
 use Rattle.mpi_protocol.specs.Rank.{Rank, session_of}
 use Rattle.run_law.proofs.Rows.{or_else, row_in, row_in-append, added_row}
 use Rattle.run_law.proofs.Dues.{Dues, due_taken}
-use Rattle.run_law.proofs.Comms.{DueComm, KnownComm, CommFits, FreeFits, CommsFit, is_numbered}
+use Rattle.run_law.proofs.Creations.{comm_in}
+use Rattle.run_law.proofs.Comms.{DueComm, KnownComm, CommFits, FreeFits, CommsFit, is_numbered, is_other}
 use Rattle.run_law.proofs.Lists.{tally, one}
 use Rattle.run_law.proofs.Bindings.{tally-snoc}
 use Rattle.run_law.proofs.Joined.{rank_in, Joined}
@@ -41,9 +42,10 @@ let_go_keeps (Some z) key k x ne = go (same_key z key) refl
     go false e = x
     go true e = let is = same_key_is z k x in absurd (let y : same_key k key ≡ true = subst (λ (i : Key). same_key i key ≡ true) is e in cc (y, ne))
 
-serial_more : (rows : List CommRow) (m : CommRow) (serial : ℕ) → serial < m.serial → list_any (λ (z : CommRow). z.serial == serial) (rows ++ m ∷ []) ≡ list_any (λ (z : CommRow). z.serial == serial) rows
-serial_more [] m serial lt = grind (arith, nat_tests, lt)
-serial_more (x ∷ xs) m serial lt = let ih = serial_more xs m serial lt in grind (arith, ih)
+-- one row more that fails a test
+any_more : (rows : List CommRow) (m : CommRow) (q : CommRow → Bool) → q m ≡ false → list_any q (rows ++ m ∷ []) ≡ list_any q rows
+any_more [] m q e = grind (arith, e)
+any_more (x ∷ xs) m q e = let ih = any_more xs m q e in grind (arith, ih)
 
 -- the next serial is no row's yet
 more_serial : (k n t : ℕ) → t ≤ one (nat_le n k) → t + one (k + 1 == n) ≤ one (nat_le n (k + 1))
@@ -161,7 +163,16 @@ module _ (s : Setting) (ranks : List Rank) (due : Dues) (g : Registry) (r : ℕ)
     }
       where
         free : (u serial p : ℕ) → FreeFits g.comms x.comms.rows x.comms.added r serial p → FreeFits g.comms known.rows known.added r serial p
-        free u serial p h = let l = h.below in record { inside = h.inside; below = omega (arith, l); gone = serial_more x.comms.rows row serial (omega (arith, l)) ∙ h.gone }
+        free u serial p h =
+            let l = h.below in
+            let off : (row.serial == serial) ≡ false = grind (arith, nat_tests, l) in
+            record {
+              inside = h.inside;
+              member = h.member;
+              below = omega (arith, l);
+              own = any_more x.comms.rows row (is_other serial (comm_in g.comms p).ctx) (grind (arith, off)) ∙ h.own;
+              gone = any_more x.comms.rows row (is_numbered serial) off ∙ h.gone;
+            }
 
     pub context_taken : a.mask ≡ set (rank_in ranks r).agree.mask c false → a.opened ≡ set_stage (rank_in ranks r).agree.opened key (Done (ended.Context c)) → Joined s (set ranks r (with_end x a (add x.comms c key.members (session_of x.threads key)))) (due_taken due r key) g
     context_taken mask opened =

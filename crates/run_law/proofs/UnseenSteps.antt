@@ -114,7 +114,7 @@ module _ (s : Setting) (ranks : List Rank) (due : Dues) (g : Registry) (r : ℕ)
       )
 
   -- a part that differs in its gathers alone
-  gathered : (a : Agree) → a.opened ≡ x.agree.opened → a.owner ≡ x.agree.owner → a.mask ≡ x.agree.mask → Joined s (set ranks r (record x { agree = a })) due g
+  pub gathered : (a : Agree) → a.opened ≡ x.agree.opened → a.owner ≡ x.agree.owner → a.mask ≡ x.agree.mask → Joined s (set ranks r (record x { agree = a })) due g
   gathered a opened owner mask =
       let inside : r < length ranks = (let e = j.sizes.ranks_are in omega (arith, e, lt)) in
       let y : Rank = record x { agree = a } in

@@ -96,45 +96,47 @@ fn the_form_is_tested_before_the_length(rt: HostRuntime) {
     assert!(rt; is_written(&rt, full.as_slice(), full.as_slice()));
 }
 
+/// A line for each operation.
+const OPERATIONS: &str = "\
+session s
+finalize s
+psets s
+nth s 0
+info s mpi://WORLD
+pset s app/ocean_1.x-y -> g
+union g h -> u
+intersect g h -> u
+difference g h -> u
+incl g [2,-1,0] -> h
+excl g [] -> h
+range_incl g [0:6:2,5:1:-2] -> h
+range_excl g [] -> h
+translate g [0,null,-2147483648] h
+compare g h
+size g
+rank g
+gfree g
+create g \"\" -> c
+dup c -> d
+split c undefined -2 -> d
+split c 3 2147483647 -> d
+create_group c g 32767 -> d
+group c -> g
+ccompare c d
+csize c
+crank c
+free c_1
+send c null 0 -
+send c 2147483647 7 00ff
+recv c any any 256
+irecv c null 3 0 -> r
+wait r
+await c";
+
 #[test]
 fn each_operation_is_read_and_written_again(rt: HostRuntime) {
-    for line in [
-        b"session s".as_slice(),
-        b"finalize s".as_slice(),
-        b"psets s".as_slice(),
-        b"nth s 0".as_slice(),
-        b"info s mpi://WORLD".as_slice(),
-        b"pset s app/ocean_1.x-y -> g".as_slice(),
-        b"union g h -> u".as_slice(),
-        b"intersect g h -> u".as_slice(),
-        b"difference g h -> u".as_slice(),
-        b"incl g [2,-1,0] -> h".as_slice(),
-        b"excl g [] -> h".as_slice(),
-        b"range_incl g [0:6:2,5:1:-2] -> h".as_slice(),
-        b"range_excl g [] -> h".as_slice(),
-        b"translate g [0,null,-2147483648] h".as_slice(),
-        b"compare g h".as_slice(),
-        b"size g".as_slice(),
-        b"rank g".as_slice(),
-        b"gfree g".as_slice(),
-        b"create g \"\" -> c".as_slice(),
-        b"dup c -> d".as_slice(),
-        b"split c undefined -2 -> d".as_slice(),
-        b"split c 3 2147483647 -> d".as_slice(),
-        b"create_group c g 32767 -> d".as_slice(),
-        b"group c -> g".as_slice(),
-        b"ccompare c d".as_slice(),
-        b"csize c".as_slice(),
-        b"crank c".as_slice(),
-        b"free c_1".as_slice(),
-        b"send c null 0 -".as_slice(),
-        b"send c 2147483647 7 00ff".as_slice(),
-        b"recv c any any 256".as_slice(),
-        b"irecv c null 3 0 -> r".as_slice(),
-        b"wait r".as_slice(),
-        b"await c".as_slice(),
-    ] {
-        assert!(rt; is_written(&rt, line, line));
+    for line in OPERATIONS.lines() {
+        assert!(rt; is_written(&rt, line.as_bytes(), line.as_bytes()), "{line}");
     }
     assert!(rt; is_written(&rt, b"  dup   c  ->  d", b"dup c -> d"));
     assert!(rt; is_written(&rt, b"free c  ", b"free c"));

@@ -6,7 +6,6 @@ pub mod Limits
 pub mod Rooms
 pub mod Effects
 pub mod Frees
-pub mod Entries
 pub mod Ends
 pub mod Verdicts
 pub mod Next

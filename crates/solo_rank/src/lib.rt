@@ -1,4 +1,4 @@
-//! The code of one rank: its state, the steps that it may make, and the journal.
+//! The code of one rank: its state, and the steps that it may make.
 #![tactic(auto)]
 
 mod agreement;
@@ -8,7 +8,6 @@ mod comms;
 mod creations;
 mod frees;
 mod groups;
-mod journal;
 mod names;
 mod next;
 mod offers;
@@ -17,6 +16,5 @@ mod rank;
 mod rows;
 mod sets;
 
-pub use journal::Journal;
 pub use next::StepKind;
 pub use rank::RankState;

@@ -1,8 +1,7 @@
 -- What a push and a pop of links in code are in a world.
-use Rattle.std.proofs.Common.{◌≡◌, ℕ, ◌+◌, ◌-◌, ◌*◌, ◌<◌, ◌≤◌, inl, inr, List, [], ◌∷◌, ◌++◌, length, map, drop, get_or, set, Option, Some, None, slice_get, refl, sym, ap, ◌∙◌, arith, true, false, Bool, nat_lt, if◌then◌else◌, is_some, subst, length-append}
-use Rattle.std.proofs.lemmas.Bool.{cases_eq}
+use Rattle.std.proofs.Common.{◌≡◌, ℕ, ◌+◌, ◌*◌, ◌<◌, ◌≤◌, [], ◌∷◌, ◌++◌, length, map, drop, set, Option, Some, None, slice_get, refl, sym, ap, ◌∙◌, arith, true, false, nat_lt, is_some}
 use Rattle.std.proofs.lemmas.Bool.Decides.{nat_tests}
-use Rattle.std.proofs.lemmas.List.{get_or-set_same, get_or-set_other, length-map, map-set, drop-map}
+use Rattle.std.proofs.lemmas.List.{map-set, drop-map}
 use Rattle.std.specs.Option.{option_map}
 use Rattle.link_net.specs.Net.{Net, room, pushed, popped, HasRoom}
 use Rattle.link_net.specs.Net as net
@@ -10,12 +9,11 @@ use Rattle.link_net.proofs.NetFacts.{links-popped}
 use Rattle.link_net.proofs.SeenFacts.{first-seen, link-seen, pushed-seen}
 use Rattle.mpi_base.specs.declared.entries.Act.{Act}
 use Rattle.mpi_base.specs.declared.entries.Act.TheVariants.{Call, Answer, Deliver, Offer, Settle, Leave, Back}
-use Rattle.mpi_protocol.specs.Packets as seen
-use Rattle.mpi_protocol.specs.World.{World, link, head_for, taken_off, has_packet, links_with, put_on}
+use Rattle.mpi_protocol.specs.World.{World, link, head_for, taken_off, has_packet, links_with}
 use Rattle.rank_core.specs.declared.packets.Packet.{Packet}
 use Rattle.rank_core.specs.declared.packets.Sent.{Sent}
-use Rattle.rank_core.specs.Packets.{Box, packet_of, sent_of, sent_by}
-use Rattle.world_core.specs.Posted.{links_of, head_on, after_act, HasHead, IsPosted}
+use Rattle.rank_core.specs.Packets.{packet_of, sent_of}
+use Rattle.world_core.specs.Posted.{links_of, head_on, after_act}
 
 module _ {w : ℕ} (top : ℕ) (n : Net (Packet w)) (v : World) (at : v.links ≡ links_of top n) (size : length v.ranks ≡ n.ranks) where
   pub link_is : (from to : ℕ) → link v from to ≡ map (packet_of top) (net.link n from to)

@@ -1,5 +1,5 @@
 -- The opening of a world.
-use Rattle.std.proofs.Common.{◌≡◌, ℕ, zero, suc, ◌+◌, ◌*◌, ◌<◌, ◌≤◌, inl, inr, List, [], ◌∷◌, ◌++◌, length, map, get_or, replicate, refl, sym, ap, subst, ◌∙◌, arith}
+use Rattle.std.proofs.Common.{◌≡◌, ℕ, zero, suc, ◌+◌, ◌*◌, ◌<◌, inl, inr, List, [], ◌∷◌, ◌++◌, length, map, get_or, replicate, refl, sym, ap, subst, ◌∙◌, arith}
 use Rattle.std.proofs.lemmas.Bool.{cases_lt}
 use Rattle.std.proofs.lemmas.List.{get_or_append_left, map-append}
 use Rattle.std.proofs.Math.Seq.{get_or-append_seam}
@@ -8,7 +8,6 @@ use Rattle.and_reduce.specs.Fronts.{HasPlaces}
 use Rattle.link_net.specs.Net.{Net}
 use Rattle.mpi_law.specs.declared.setting.Setting.{Setting}
 use Rattle.mpi_law.specs.Settings.{IsSetting}
-use Rattle.mpi_protocol.specs.Packets as seen
 use Rattle.mpi_protocol.specs.Rank.{Rank, fresh}
 use Rattle.mpi_protocol.specs.World.{opening}
 use Rattle.rank_law.specs.Counts.{CountsWithin}

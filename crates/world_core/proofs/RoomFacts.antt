@@ -1,12 +1,11 @@
 -- A world whose ranks and links get room.
-use Rattle.std.proofs.Common.{◌≡◌, ℕ, ◌+◌, ◌*◌, ◌<◌, ◌≤◌, inl, inr, List, length, map, get_or, set, Result, Ok, Err, OnOk, refl, sym, ap, subst, ◌∙◌, arith, length-set}
+use Rattle.std.proofs.Common.{◌≡◌, ℕ, ◌<◌, ◌≤◌, inl, inr, List, length, map, get_or, set, Result, Ok, Err, OnOk, sym, ap, subst, ◌∙◌, arith, length-set}
 use Rattle.std.proofs.lemmas.Bool.{cases_eq}
 use Rattle.std.proofs.lemmas.List.{get_or-map, get_or-set_same, get_or-set_other}
 use Rattle.std.proofs.Math.Seq.{map-set_same}
 use Rattle.link_net.specs.Net.{Net}
 use Rattle.mpi_base.specs.declared.entries.Entry.{Entry}
 use Rattle.mpi_law.specs.declared.setting.Setting.{Setting}
-use Rattle.mpi_protocol.specs.Run.{IsProtocolRun, end_of}
 use Rattle.rank_law.specs.Counts.{CountsWithin}
 use Rattle.rank_core.specs.declared.packets.Packet.{Packet}
 use Rattle.rank_core.specs.Held.{Held as RankHeld}

@@ -1,5 +1,5 @@
 //! The world.
-ghost use Rattle.std.specs.Prelude.{◌≡◌, ◌<◌, ◌≤◌, ◌-◌, ◌^◌, [], IfOk, IfSome, OnOk, true, length, min, option_copied};
+ghost use Rattle.std.specs.Prelude.{◌≡◌, ◌<◌, ◌≤◌, ◌-◌, ◌^◌, [], IfOk, IfSome, OnOk, true, false, ℕ, length, min, option_copied};
 ghost use Rattle.std.specs.Option.{IfNone};
 ghost use Rattle.std.specs.List.{sum_by};
 ghost use Rattle.and_reduce.specs.Fronts.{HasPlaces};
@@ -175,6 +175,27 @@ impl<const W: usize> World<W> {
         ensures none { IfNone result (NoneNext (rank_at self.now.world rank) kind (option_copied after.entry)) }
     {
         self.ranks[rank as usize].next(kind, after)
+    }
+
+    /// Whether a step of a kind may be there at a rank: false only where none may be made. It is quicker
+    /// than [`World::next`].
+    pub fn has_next(&self, rank: u16, kind: StepKind) -> bool
+        requires rank { rank < self.now.setting.ranks }
+        ensures none { result ≡ false → NoneNext (rank_at self.now.world rank) kind None }
+    {
+        self.ranks[rank as usize].has_next(kind)
+    }
+
+    /// Whether a packet of a rank may be on its way: false only where none of it may be delivered.
+    pub fn has_sent(&self, from: u16) -> bool
+        ensures none { result ≡ false → (rank : ℕ) → may_happen self.now.world (record { rank = rank; act = Act.Deliver from }) ≡ false }
+    {
+        for rank in 0..self.setting.ranks {
+            if self.has_packet(rank, &Act::Deliver { from }) {
+                return true;
+            }
+        }
+        false
     }
 
     /// Whether some rank has made its offer of a creation's round, and has no verdict on it.

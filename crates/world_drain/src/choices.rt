@@ -20,13 +20,15 @@ fn first_delivery<const W: usize>(world: &World<W>) -> Option<Choice>
 {
     let ranks = world.setting().ranks;
     for from in 0..ranks {
-        for rank in 0..ranks {
-            let choice = Choice {
-                rank,
-                act: Act::Deliver { from },
-            };
-            if world.enabled(&choice) {
-                return Some(choice);
+        if world.has_sent(from) {
+            for rank in 0..ranks {
+                let choice = Choice {
+                    rank,
+                    act: Act::Deliver { from },
+                };
+                if world.enabled(&choice) {
+                    return Some(choice);
+                }
             }
         }
     }
@@ -40,8 +42,10 @@ fn first_of<const W: usize>(world: &World<W>, kind: StepKind) -> Option<Choice>
     ensures none { IfNone result (NoneOf (IsOfKind world.now.world (number_of kind))) }
 {
     for rank in 0..world.setting().ranks {
-        if let Some(act) = world.next(rank, kind, None) {
-            return Some(Choice { rank, act });
+        if world.has_next(rank, kind) {
+            if let Some(act) = world.next(rank, kind, None) {
+                return Some(Choice { rank, act });
+            }
         }
     }
     None

@@ -1,4 +1,4 @@
-use Rattle.std.proofs.Common.{arith, rules}
+use Rattle.std.proofs.Common.{rules}
 use Rattle.rank_core.proofs.CommFacts.{context-back, rank-removed}
 use Rattle.rank_core.proofs.rank.RankState.back.Goals as goal
 

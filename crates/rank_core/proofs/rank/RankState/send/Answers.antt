@@ -1,7 +1,6 @@
-use Rattle.std.proofs.Common.{◌++◌, ◌∙◌, ap, arith, sym, refl, List}
+use Rattle.std.proofs.Common.{◌++◌, ◌∙◌, ap, arith, sym, refl}
 use Rattle.std.proofs.lemmas.List.{append-nil}
 use Rattle.std.proofs.lemmas.Bool.Decides.{nat_tests}
-use Rattle.mpi_protocol.specs.Packets.{Sent as Sent_seen}
 use Rattle.mpi_protocol.specs.Moves.{Move}
 use Rattle.rank_core.specs.Packets.{sent_by}
 use Rattle.rank_core.proofs.CountFacts.{calls-low}

@@ -1,4 +1,4 @@
-use Rattle.std.proofs.Common.{◌≡◌, ◌<◌, ap, sym, ◌∙◌, length, map, refl, arith, slice_get, is_some, option_copied, Bor, Option, Some, None}
+use Rattle.std.proofs.Common.{◌≡◌, ap, sym, ◌∙◌, refl, arith, is_some, option_copied, Bor, Option, Some, None}
 use Rattle.std.proofs.lemmas.List.{length-map}
 use Rattle.mpi_base.specs.declared.entries.Act.TheVariants.{Deliver}
 use Rattle.mpi_protocol.specs.World.{has_packet}

@@ -1,4 +1,4 @@
-use Rattle.std.proofs.Common.{◌≡◌, rules, ap, sym, ◌∙◌}
+use Rattle.std.proofs.Common.{rules, ap, sym, ◌∙◌}
 use Rattle.mpi_protocol.specs.Order.{offered_anywhere}
 use Rattle.world_core.specs.Held.{Held}
 use Rattle.world_core.proofs.Offered.{offered_here, offered_nowhere}

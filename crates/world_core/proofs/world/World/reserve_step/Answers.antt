@@ -1,4 +1,4 @@
-use Rattle.std.proofs.Common.{◌≡◌, ◌*◌, ◌+◌, ◌<◌, ◌≤◌, get_or, ap, subst, sym, ◌∙◌, arith}
+use Rattle.std.proofs.Common.{◌*◌, ◌+◌, ◌<◌, ◌≤◌, get_or, ap, subst, sym, ◌∙◌, arith}
 use Rattle.world_core.specs.Held.{Held}
 use Rattle.world_core.proofs.RoomFacts.{ok_of, world_kept, is_kept, step_room}
 use Rattle.world_core.proofs.world.World.reserve_step.Goals as goal

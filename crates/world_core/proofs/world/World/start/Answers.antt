@@ -31,9 +31,9 @@ loop-rank-preserved g c =
     let is : new.state ≡ fresh c.args.setting c.loop-rank.rank = c.in_ok-start.ensures.state in
     let none : new.boxed ≡ 0 = c.in_ok-start.ensures.boxed in
     record {
-      size = subst (λ (xs : List RankHeld). length xs ≡ c.loop-rank.rank + 1) (sym put) (length-append c.loop-rank.ranks.items (new ∷ []) ∙ ap (λ n. n + 1) inv.size);
+      size = subst (λ (xs : List RankHeld). length xs ≡ c.loop-rank.rank + 1) (sym {A = List RankHeld} put) (length-append c.loop-rank.ranks.items (new ∷ []) ∙ ap (λ n. n + 1) inv.size);
       room = omega (arith, c.push_reserved.ensures.capacity, inv.room);
-      states = subst (λ (xs : List RankHeld). map (λ (x : RankHeld). x.state) xs ≡ map (fresh c.args.setting) (range_with_len 0 (c.loop-rank.rank + 1))) (sym put) (states_more c.args.setting c.loop-rank.ranks.items c.loop-rank.rank inv.size new inv.states is);
-      each = subst (λ (xs : List RankHeld). (r : ℕ) (x : RankHeld) → r < c.loop-rank.rank + 1 → IsRankOf c.args.setting r 0 (get_or xs r x)) (sym put)
+      states = subst (λ (xs : List RankHeld). map (λ (x : RankHeld). x.state) xs ≡ map (fresh c.args.setting) (range_with_len 0 (c.loop-rank.rank + 1))) (sym {A = List RankHeld} put) (states_more c.args.setting c.loop-rank.ranks.items c.loop-rank.rank inv.size new inv.states is);
+      each = subst (λ (xs : List RankHeld). (r : ℕ) (x : RankHeld) → r < c.loop-rank.rank + 1 → IsRankOf c.args.setting r 0 (get_or xs r x)) (sym {A = List RankHeld} put)
           (each_more c.args.setting c.loop-rank.ranks.items c.loop-rank.rank inv.size new (new_rank c.args.setting c.loop-rank.ranks.items c.loop-rank.rank inv.size new is none c.counts_rise.ensures.fresh) inv.each);
     }

@@ -1,7 +1,6 @@
 use Rattle.std.proofs.Common.{rules, ◌≡◌, true, ap, sym, subst, ◌∙◌, ◌∷◌, [], ◌++◌}
 use Rattle.mpi_base.specs.declared.entries.Entry.{Entry}
 use Rattle.mpi_protocol.specs.World.{may_happen, moved, entry_at}
-use Rattle.rank_core.specs.Held.{Held as RankHeld}
 use Rattle.world_core.specs.Held.{Held, HasRoom}
 use Rattle.world_core.specs.Posted.{IsPosted}
 use Rattle.world_core.proofs.StepFacts.{below, enabled_is, has_step, counts_are_low, head_there, after_act_ranks, fits, moved_is, line_is, choice_is, world_after_step}
