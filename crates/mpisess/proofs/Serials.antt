@@ -8,7 +8,9 @@ use Rattle.mpi_law.specs.Settings.{IsSetting}
 use Rattle.mpi_law.specs.ScriptLists.{AllScripts, script_of}
 use Rattle.mpi_protocol.specs.Rank.{thread_at, is_idle}
 use Rattle.mpi_protocol.specs.World.{World, opening, rank_at}
-use Rattle.mpi_protocol.specs.Run.{IsProtocolRun, end_of, calls_of}
+use Rattle.mpi_law.specs.Registry.State.{registry_opening}
+use Rattle.mpi_law.specs.Registry.Runs.{IsRegistryRun}
+use Rattle.mpi_protocol.specs.Run.{IsProtocolRun, end_of, events_of, calls_of}
 use Rattle.mpi_protocol.specs.Order.{IsDrained, IsQuiet}
 use Rattle.world_core.specs.Held.{Held}
 use Rattle.world_drain.specs.Drains.{Goes}
@@ -53,16 +55,17 @@ stuck_is_not true e = absurd (cc (e))
 stuck_is_not false e = refl
 
 -- a drained job
-serial_run : (before : Option (List ℕ)) (s : Setting) (scripts : AllScripts) (journal : List Entry) (ended : Bool) → TellsJob before s scripts → IsSetting s → IsProtocolRun s journal → IsDrained scripts (opening s) journal
+serial_run : (before : Option (List ℕ)) (s : Setting) (scripts : AllScripts) (journal : List Entry) (ended : Bool) → TellsJob before s scripts → IsSetting s → IsProtocolRun s journal → IsRegistryRun s (registry_opening s) (events_of journal) → IsDrained scripts (opening s) journal
     → IsQuiet (end_of s journal) scripts → AreOfScripts scripts (end_of s journal) journal → length (end_of s journal).ranks ≡ s.ranks
     → (AreEnded scripts (end_of s journal) → (r t : ℕ) → r < s.ranks → t < THREADS → calls_of r t journal ≡ script_of scripts r t)
     → (ended ≡ true → RanksAreIdle s.ranks (end_of s journal)) → (ended ≡ false → RanksAreIdle s.ranks (end_of s journal) → ⊥) → IsSerialRun before (end_status ended) journal
-serial_run before s scripts journal ended told valid run drained quiet calls many whole idle waits = record {
+serial_run before s scripts journal ended told valid run registry drained quiet calls many whole idle waits = record {
   setting = s;
   scripts = scripts;
   told = told;
   valid = valid;
   run = run;
+  registry = registry;
   drained = drained;
   quiet = quiet;
   calls = calls;
@@ -75,10 +78,11 @@ serial_run before s scripts journal ended told valid run drained quiet calls man
 pub world_run : (before : Option (List ℕ)) (s : Setting) (scripts : AllScripts) (old new : Held) (journal : List Entry) (ended : Bool) → TellsJob before s scripts → IsSetting s
     → old.setting ≡ s → old.world ≡ opening s → old.entries ≡ [] → new.setting ≡ old.setting → Goes scripts old new → IsQuiet new.world scripts
     → IsProtocolRun new.setting new.entries → new.world ≡ end_of new.setting new.entries → journal ≡ new.entries
+    → (IsProtocolRun s journal → IsRegistryRun s (registry_opening s) (events_of journal))
     → (IsProtocolRun s journal → IsDrained scripts (opening s) journal → AreOfScripts scripts (end_of s journal) journal) → length (end_of s journal).ranks ≡ s.ranks
     → (IsProtocolRun s journal → IsDrained scripts (opening s) journal → AreEnded scripts (end_of s journal) → (r t : ℕ) → r < s.ranks → t < THREADS → calls_of r t journal ≡ script_of scripts r t)
     → (ended ≡ true → RanksAreIdle new.setting.ranks new.world) → (ended ≡ false → RanksAreIdle new.setting.ranks new.world → ⊥) → IsSerialRun before (end_status ended) journal
-world_run before s scripts old new journal ended told valid start opened none same goes quiet run end entries calls many whole idle waits =
+world_run before s scripts old new journal ended told valid start opened none same goes quiet run end entries registry calls many whole idle waits =
     let set : new.setting ≡ s = same ∙ start in
     let ends : new.world ≡ end_of s journal = end ∙ ap (λ (z : Setting). end_of z new.entries) set ∙ ap (λ (es : List Entry). end_of s es) (sym entries) in
     let all : journal ≡ goes.more = entries ∙ goes.entries ∙ ap (λ (es : List Entry). es ++ goes.more) none in
@@ -86,7 +90,7 @@ world_run before s scripts old new journal ended told valid start opened none sa
     let drained : IsDrained scripts (opening s) journal = subst (λ (w : World). IsDrained scripts w journal) opened (subst (λ (es : List Entry). IsDrained scripts old.world es) (sym all) goes.drained) in
     let there : RanksAreIdle new.setting.ranks new.world → RanksAreIdle s.ranks (end_of s journal) = λ h. subst (λ (z : Setting). RanksAreIdle z.ranks (end_of s journal)) set (subst (λ (w : World). RanksAreIdle new.setting.ranks w) ends h) in
     let back : RanksAreIdle s.ranks (end_of s journal) → RanksAreIdle new.setting.ranks new.world = λ h. subst (λ (w : World). RanksAreIdle new.setting.ranks w) (sym ends) (subst (λ (z : Setting). RanksAreIdle z.ranks (end_of s journal)) (sym set) h) in
-    serial_run before s scripts journal ended told valid runs drained (subst (λ (w : World). IsQuiet w scripts) ends quiet) (calls runs drained) many (whole runs drained) (λ e. there (idle e)) (λ e h. waits e (back h))
+    serial_run before s scripts journal ended told valid runs (registry runs) drained (subst (λ (w : World). IsQuiet w scripts) ends quiet) (calls runs drained) many (whole runs drained) (λ e. there (idle e)) (λ e h. waits e (back h))
 
 -- and one whose journal could not be written
 pub unwritten_run : (before : Option (List ℕ)) (status : Status) (journal : List Entry) → IsSerialRun before status journal → IsSerialRun before WriteFault journal
@@ -96,6 +100,7 @@ unwritten_run before status journal r = record {
   told = r.told;
   valid = r.valid;
   run = r.run;
+  registry = r.registry;
   drained = r.drained;
   quiet = r.quiet;
   calls = r.calls;

@@ -7,7 +7,9 @@ use Rattle.mpi_law.specs.Settings.{IsSetting}
 use Rattle.mpi_law.specs.ScriptLists.{AllScripts, script_of}
 use Rattle.mpi_protocol.specs.Rank.{thread_at, is_idle}
 use Rattle.mpi_protocol.specs.World.{World, opening, rank_at}
-use Rattle.mpi_protocol.specs.Run.{IsProtocolRun, end_of, calls_of}
+use Rattle.mpi_law.specs.Registry.State.{registry_opening}
+use Rattle.mpi_law.specs.Registry.Runs.{IsRegistryRun}
+use Rattle.mpi_protocol.specs.Run.{IsProtocolRun, end_of, events_of, calls_of}
 use Rattle.mpi_protocol.specs.Order.{IsDrained, IsQuiet}
 use Rattle.script_law.specs.Called.{AreOfScripts, AreEnded}
 use Rattle.job_file.specs.declared.faults.JobFault.{JobFault}
@@ -43,13 +45,15 @@ abbrev pub end_status : Bool → Status
 end_status true = Fine
 end_status false = Stuck
 
--- a job, drained from its start until nothing is left to do: at Fine every script is ended, at Stuck some script is not
+-- a job, drained from its start until nothing is left to do; its events are a run of the central registry; at Fine every script
+-- is ended, at Stuck some script is not
 pub record IsSerialRun (before : Option (List ℕ)) (status : Status) (journal : List Entry) : Type 0 where
   pub setting : Setting
   pub scripts : AllScripts
   pub told : TellsJob before setting scripts
   pub valid : IsSetting setting
   pub run : IsProtocolRun setting journal
+  pub registry : IsRegistryRun setting (registry_opening setting) (events_of journal)
   pub drained : IsDrained scripts (opening setting) journal
   pub quiet : IsQuiet (end_of setting journal) scripts
   pub calls : AreOfScripts scripts (end_of setting journal) journal

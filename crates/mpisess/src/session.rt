@@ -170,8 +170,8 @@ impl From<OutOfMemory> for Stop {
 /// never ends Stuck. Usage comes of other words, BadJob of an input that is no job, TooLong of too many
 /// bytes, ReadFault and WriteFault of a source and a sink that fail. `Memory` alone is tied to no cause;
 /// `serial` gives it also where the drain does not end within its count of steps, and that it always does
-/// is not proved yet. Nor are the clauses `registry` and `closed` proved of `serial` yet. Of a source or a
-/// sink that does not tell its bytes no clause about bytes says anything.
+/// is not proved yet. Nor is the clause `closed` proved of `serial` yet. Of a source or a sink that does
+/// not tell its bytes no clause about bytes says anything.
 #[tactic(auto, using(crate::proofs::Sessions::solo_is_not_serial))]
 pub fn mpisess_calm<S: Source, K: Sink>(
     alloc: Global,

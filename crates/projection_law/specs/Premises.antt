@@ -1,6 +1,5 @@
 -- What the laws of this crate ask of a setting and of a journal, beyond that the journal is a protocol run. The first holds of
--- every job whose process sets are made of distinct ranks. The second is not proved yet of every protocol run: it is to follow
--- from the laws of names and communicators.
+-- every job (`job_law`), the second of every protocol run (`registry_law`).
 use Rattle.std.specs.Prelude.{◌≡◌, ℕ, ◌&&◌, not, Bool, true, false, List, [], ◌∷◌, Option, Some, None}
 use Rattle.std.specs.List.{list_all}
 use Rattle.mpi_base.specs.MemberLists.{are_distinct}

@@ -2,10 +2,9 @@
 //! none, so that the agreement's laws hold of the ranks. Each law is a function without a body; what it asks
 //! of a setting and a journal stands before the arrow.
 //!
-//! Each law but `picks_are_contexts` has a premise that is still open, `CallersNamesAreKnown`: each communicator
-//! that a caller has a name for is known to its rank and not left there. The laws of names and communicators are to
-//! show it of every protocol run. `SetsAreOfRanks`, that the members of each process set are distinct ranks, is
-//! asked of the setting.
+//! Each law but `picks_are_contexts` has the premise `CallersNamesAreKnown`: each communicator that a caller has a
+//! name for is known to its rank and not left there. `registry_law` shows it of every protocol run.
+//! `SetsAreOfRanks`, that the members of each process set are distinct ranks, is asked of the setting.
 #![tactic(auto)]
 
 ghost use Rattle.std.specs.Prelude.{ℕ, List};

@@ -34,7 +34,7 @@ use Rattle.mpi_law.specs.Registry.Calls.{around, effect_at}
 use Rattle.comm_law.specs.Comms.{comm_at}
 use Rattle.mpi_protocol.specs.Rank.{Rank, is_open_here, has_open_of}
 use Rattle.mpi_protocol.specs.Calls.{key_from, key_under, around_here}
-use Rattle.run_law.proofs.Dues.{Dues}
+use Rattle.due_law.specs.Dues.{Dues}
 use Rattle.run_law.proofs.Locals.{CommNamed}
 use Rattle.run_law.proofs.KnownHere.{members_agree, contexts_agree}
 use Rattle.run_law.proofs.OpenHere.{open_agrees, open_on_agrees, engaged_agrees}

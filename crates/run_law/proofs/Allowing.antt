@@ -17,7 +17,7 @@ use Rattle.comm_law.specs.declared.rows.CommRow.{CommRow}
 use Rattle.mpi_protocol.specs.Rank.{Rank}
 use Rattle.run_law.proofs.Rows.{row_in}
 use Rattle.run_law.proofs.Contexts.{in_use_is}
-use Rattle.run_law.proofs.Dues.{Dues}
+use Rattle.due_law.specs.Dues.{Dues}
 use Rattle.run_law.proofs.Creations.{creation_in}
 use Rattle.run_law.proofs.Comms.{CommFits}
 use Rattle.run_law.proofs.Wholes.{is_open_row}
@@ -25,7 +25,7 @@ use Rattle.run_law.proofs.Classes.{no_member, some_member}
 use Rattle.run_law.proofs.Joined.{rank_in, Joined}
 use Rattle.run_law.proofs.Between.{between_calls}
 use Rattle.run_law.proofs.Deciding.{Deciding}
-use Rattle.run_law.proofs.Agreed.{AllOffered}
+use Rattle.due_law.specs.Agreed.{AllOffered}
 
 -- Names
 

@@ -24,7 +24,7 @@ use Rattle.mpi_protocol.specs.Answers.{target_after, reply_of}
 use Rattle.mpi_protocol.specs.Run.{reply_events}
 use Rattle.run_law.proofs.Lists.{tally}
 use Rattle.run_law.proofs.Contexts.{comm_of_is}
-use Rattle.run_law.proofs.Dues.{Dues}
+use Rattle.due_law.specs.Dues.{Dues}
 use Rattle.run_law.proofs.Locals.{LocalFits, binds, is_name}
 use Rattle.run_law.proofs.Threads.{row_of}
 use Rattle.run_law.proofs.Creations.{DoneFits, StageFits, MembersFit, CreationFits, creation_in}

@@ -15,7 +15,7 @@ use Rattle.comm_law.specs.declared.rows.CommRow.{CommRow}
 use Rattle.mpi_protocol.specs.declared.rows.ThreadRow.{ThreadRow}
 use Rattle.mpi_protocol.specs.Rank.{Rank}
 use Rattle.run_law.proofs.Rows.{row_in}
-use Rattle.run_law.proofs.Dues.{Dues}
+use Rattle.due_law.specs.Dues.{Dues}
 use Rattle.run_law.proofs.Creations.{CreationFits, UncolouredFits, creation_in}
 use Rattle.run_law.proofs.Comms.{CommFits, CommsFit}
 use Rattle.run_law.proofs.Wholes.{Wholes, ParentFits, number_in}

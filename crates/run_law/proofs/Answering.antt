@@ -21,7 +21,7 @@ use Rattle.mpi_protocol.specs.declared.rows.Waits.TheVariants.{Nothing, Creation
 use Rattle.mpi_protocol.specs.declared.rows.ThreadRow.{ThreadRow}
 use Rattle.mpi_protocol.specs.Rank.{Rank, idle_thread}
 use Rattle.run_law.proofs.Lists.{tally, one}
-use Rattle.run_law.proofs.Dues.{Dues}
+use Rattle.due_law.specs.Dues.{Dues}
 use Rattle.run_law.proofs.Locals.{LocalFits, binds}
 use Rattle.run_law.proofs.Threads.{row_of, part_row, is_for, ThreadsFit}
 use Rattle.run_law.proofs.Masks.{MaskFits}

@@ -34,7 +34,7 @@ use Rattle.run_law.proofs.Lists.{set_place}
 use Rattle.run_law.proofs.Rows.{row_in}
 use Rattle.run_law.proofs.Contexts.{comm_of_live, live_member, comm_of_is, has_rank-append}
 use Rattle.run_law.proofs.Classes.{each_member, no_member}
-use Rattle.run_law.proofs.Dues.{Dues}
+use Rattle.due_law.specs.Dues.{Dues}
 use Rattle.run_law.proofs.Locals.{BoundFits, NamesFit, LocalFits}
 use Rattle.run_law.proofs.Threads.{row_of}
 use Rattle.run_law.proofs.Masks.{MaskFits}

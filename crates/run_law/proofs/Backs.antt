@@ -15,7 +15,7 @@ use Rattle.mpi_protocol.specs.declared.rows.Waits.{Waits}
 use Rattle.mpi_protocol.specs.declared.rows.Waits.TheVariants.{Nothing, Creation as Creates, Uncoloured, Freeing, Ending, Receiving, Awaiting}
 use Rattle.mpi_protocol.specs.Rank.{Rank}
 use Rattle.run_law.proofs.Contexts.{Apart, comm_of_is, comm_of_live, live_member, has_rank-append}
-use Rattle.run_law.proofs.Dues.{Dues}
+use Rattle.due_law.specs.Dues.{Dues}
 use Rattle.run_law.proofs.Threads.{WaitFits, row_of, part_row}
 use Rattle.run_law.proofs.Creations.{comm_in, creation_in}
 use Rattle.run_law.proofs.Wholes.{ParentFits, BackIsFreed}

@@ -8,7 +8,7 @@ use Rattle.mpi_law.specs.Registry.State.{Registry, ThreadPart, RankPart, Wait, b
 use Rattle.mpi_protocol.specs.declared.rows.Waits.{Waits}
 use Rattle.mpi_protocol.specs.declared.rows.Waits.TheVariants.{Nothing, Creation, Uncoloured, Freeing, Ending, Receiving, Awaiting}
 use Rattle.mpi_protocol.specs.Rank.{Rank}
-use Rattle.run_law.proofs.Dues.{Dues}
+use Rattle.due_law.specs.Dues.{Dues}
 use Rattle.run_law.proofs.Threads.{WaitFits, row_of, part_row}
 use Rattle.run_law.proofs.Joined.{rank_in, Joined}
 

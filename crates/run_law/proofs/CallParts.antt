@@ -14,7 +14,7 @@ use Rattle.mpi_law.specs.Registry.Runs.{MayCall}
 use Rattle.mpi_protocol.specs.declared.rows.Waits.{Waits}
 use Rattle.mpi_protocol.specs.declared.rows.Waits.TheVariants.{Nothing}
 use Rattle.mpi_protocol.specs.Rank.{Rank}
-use Rattle.run_law.proofs.Dues.{Dues}
+use Rattle.due_law.specs.Dues.{Dues}
 use Rattle.run_law.proofs.Threads.{WaitFits, row_of, part_row}
 use Rattle.run_law.proofs.Joined.{rank_in, Joined}
 use Rattle.run_law.proofs.Between.{between_calls}

@@ -40,7 +40,7 @@ use Rattle.mpi_protocol.specs.Calls.{key_from, called, says}
 use Rattle.mpi_protocol.specs.Run.{match_events, reply_events}
 use Rattle.run_law.proofs.Lists.{tally, one, get_or_past}
 use Rattle.run_law.proofs.Rows.{row_in}
-use Rattle.run_law.proofs.Dues.{Dues}
+use Rattle.due_law.specs.Dues.{Dues}
 use Rattle.run_law.proofs.Locals.{LocalFits, BoundFits, is_comm, binds, is_name}
 use Rattle.run_law.proofs.Threads.{WaitFits, row_of, part_row, is_for}
 use Rattle.run_law.proofs.Creations.{creation_in}
@@ -48,7 +48,7 @@ use Rattle.run_law.proofs.Comms.{CommFits, CommsFit, FreeFits}
 use Rattle.run_law.proofs.Wholes.{ParentFits, number_in, is_open_row}
 use Rattle.run_law.proofs.Allowing.{same_name_is, same_name-refl, where_is}
 use Rattle.run_law.proofs.Joined.{rank_in, Joined}
-use Rattle.run_law.proofs.Agreed.{Untold}
+use Rattle.due_law.specs.Agreed.{Untold}
 use Rattle.run_law.proofs.Bindings.{each_bind, unbound_bind, fewer_unbind, names-bind, names-unbind}
 use Rattle.run_law.proofs.Waiters.{thread_inside}
 use Rattle.run_law.proofs.Parts.{thread_in, PartsAfter}

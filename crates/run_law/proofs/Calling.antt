@@ -32,10 +32,10 @@ use Rattle.mpi_protocol.specs.Calls.{around_here, called, calls}
 use Rattle.mpi_protocol.specs.Step.{step, entry_of}
 use Rattle.mpi_protocol.specs.Run.{act_events, message_events, if_fine, if_silent}
 use Rattle.mpi_protocol.specs.World.{World, taken_off, links_with, put_on, after, moved, move_of}
-use Rattle.run_law.proofs.Dues.{Dues}
+use Rattle.due_law.specs.Dues.{Dues}
 use Rattle.run_law.proofs.Threads.{row_of}
 use Rattle.run_law.proofs.Joined.{rank_in, Joined}
-use Rattle.run_law.proofs.Agreed.{Untold, DueIsFree}
+use Rattle.due_law.specs.Agreed.{Untold, DueIsFree}
 use Rattle.run_law.proofs.Alike.{Alike, says, opens, groups, ungroups, grouped, duplicated, divided, grouped_on, frees, ends, sends, receives, posts, null_posts, completes, awaits, effects_alike}
 use Rattle.run_law.proofs.CallSteps.{call_events, said_goes, waits_goes, with_name, unbound_by, without_name, with_session, grouped_goes}
 use Rattle.run_law.proofs.Bindings.{other_unbind}

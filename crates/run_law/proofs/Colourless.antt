@@ -14,7 +14,7 @@ use Rattle.mpi_protocol.specs.declared.rows.Waits.TheVariants.{Nothing, Uncolour
 use Rattle.mpi_protocol.specs.Rank.{Rank}
 use Rattle.mpi_protocol.specs.Answers.{answered}
 use Rattle.mpi_protocol.specs.Run.{reply_events}
-use Rattle.run_law.proofs.Dues.{Dues}
+use Rattle.due_law.specs.Dues.{Dues}
 use Rattle.run_law.proofs.Locals.{LocalFits, binds, is_name}
 use Rattle.run_law.proofs.Threads.{row_of, part_row}
 use Rattle.run_law.proofs.Creations.{UncolouredFits, creation_in}

@@ -22,7 +22,7 @@ use Rattle.mpi_protocol.specs.declared.rows.ThreadRow.{ThreadRow}
 use Rattle.mpi_protocol.specs.Rank.{Rank}
 use Rattle.run_law.proofs.Lists.{tally, one}
 use Rattle.run_law.proofs.Rows.{row_in}
-use Rattle.run_law.proofs.Dues.{Dues}
+use Rattle.due_law.specs.Dues.{Dues}
 use Rattle.run_law.proofs.Threads.{row_of, part_row}
 use Rattle.run_law.proofs.Creations.{comm_in}
 

@@ -34,14 +34,14 @@ use Rattle.mpi_protocol.specs.Rank.{Rank, with_call as rank_calls}
 use Rattle.mpi_protocol.specs.Calls.{called, key_on}
 use Rattle.run_law.proofs.Lists.{one, tally, get_or_past}
 use Rattle.run_law.proofs.Rows.{row_in}
-use Rattle.run_law.proofs.Dues.{Dues}
+use Rattle.due_law.specs.Dues.{Dues}
 use Rattle.run_law.proofs.Threads.{row_of, part_row}
 use Rattle.run_law.proofs.Creations.{creation_in, comm_in}
 use Rattle.run_law.proofs.Comms.{CommFits, CommsFit, KnownComm, is_numbered}
 use Rattle.run_law.proofs.Wholes.{ParentFits, GroupFits, number_in}
 use Rattle.run_law.proofs.Allowing.{same_name_is, where_is}
 use Rattle.run_law.proofs.Joined.{rank_in, Joined}
-use Rattle.run_law.proofs.Agreed.{Untold}
+use Rattle.due_law.specs.Agreed.{Untold}
 use Rattle.run_law.proofs.Parts.{PartsAfter}
 use Rattle.run_law.proofs.JoinWholes.{rows, counts}
 use Rattle.run_law.proofs.Joins.{Begins, calls, tells, join_joined}

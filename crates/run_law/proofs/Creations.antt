@@ -23,7 +23,7 @@ use Rattle.comm_law.specs.declared.rows.CommRow.{CommRow}
 use Rattle.mpi_protocol.specs.Rank.{Rank}
 use Rattle.run_law.proofs.Lists.{tally}
 use Rattle.run_law.proofs.Rows.{row_in}
-use Rattle.run_law.proofs.Dues.{Dues}
+use Rattle.due_law.specs.Dues.{Dues}
 use Rattle.run_law.proofs.Locals.{binds}
 use Rattle.run_law.proofs.Threads.{row_of, part_row}
 

@@ -33,13 +33,13 @@ use Rattle.mpi_protocol.specs.Calls.{called}
 use Rattle.run_law.proofs.Lists.{length-map, tally, get_or-map}
 use Rattle.run_law.proofs.Rows.{row_in}
 use Rattle.run_law.proofs.Contexts.{comm_of_is, has_rank-append, live_member}
-use Rattle.run_law.proofs.Dues.{Dues}
+use Rattle.due_law.specs.Dues.{Dues}
 use Rattle.run_law.proofs.Locals.{BoundFits, NamesFit, LocalFits, binds, is_name}
 use Rattle.run_law.proofs.Threads.{row_of}
 use Rattle.run_law.proofs.Creations.{DueFits, StageFits, comm_in, creation_in}
 use Rattle.run_law.proofs.Comms.{KnownComm, CommFits, CommsFit, FreeFits, is_numbered}
 use Rattle.run_law.proofs.Joined.{rank_in, Joined}
-use Rattle.run_law.proofs.Agreed.{Untold}
+use Rattle.due_law.specs.Agreed.{Untold}
 use Rattle.run_law.proofs.Parts.{set_twice, thread_in, PartsAfter}
 use Rattle.run_law.proofs.OneRank.{rank_set}
 use Rattle.run_law.proofs.Bindings.{tally-filter}

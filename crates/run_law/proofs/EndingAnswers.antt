@@ -27,12 +27,12 @@ use Rattle.mpi_protocol.specs.Run.{reply_events}
 use Rattle.run_law.proofs.Lists.{All_at, none_at}
 use Rattle.run_law.proofs.Rows.{row_in, row_any}
 use Rattle.run_law.proofs.Contexts.{comm_of_live}
-use Rattle.run_law.proofs.Dues.{Dues}
+use Rattle.due_law.specs.Dues.{Dues}
 use Rattle.run_law.proofs.Threads.{WaitFits, row_of}
 use Rattle.run_law.proofs.Creations.{StageFits, DueFits, comm_in, creation_in}
 use Rattle.run_law.proofs.Comms.{CommFits, DueComm}
 use Rattle.run_law.proofs.Joined.{rank_in, Joined}
-use Rattle.run_law.proofs.Agreed.{Untold}
+use Rattle.due_law.specs.Agreed.{Untold}
 use Rattle.run_law.proofs.Waiters.{Waiter, waiter_of}
 use Rattle.run_law.proofs.Parts.{thread_in}
 use Rattle.run_law.proofs.PlainAnswers.{idle_goes, waits_too}

@@ -33,13 +33,13 @@ use Rattle.mpi_protocol.specs.Calls.{called}
 use Rattle.run_law.proofs.Lists.{tally, one}
 use Rattle.run_law.proofs.Rows.{row_in}
 use Rattle.run_law.proofs.Contexts.{comm_of_is, live_member, has_rank-append}
-use Rattle.run_law.proofs.Dues.{Dues}
+use Rattle.due_law.specs.Dues.{Dues}
 use Rattle.run_law.proofs.Locals.{CommNamed, BoundFits, NamesFit, LocalFits, is_comm, binds}
 use Rattle.run_law.proofs.Threads.{row_of}
 use Rattle.run_law.proofs.Creations.{DueFits, StageFits, comm_in, creation_in}
 use Rattle.run_law.proofs.Comms.{KnownComm, CommFits, CommsFit, FreeFits, is_numbered}
 use Rattle.run_law.proofs.Joined.{rank_in, Joined}
-use Rattle.run_law.proofs.Agreed.{Untold, DueIsFree}
+use Rattle.due_law.specs.Agreed.{Untold, DueIsFree}
 use Rattle.run_law.proofs.Parts.{set_at, set_twice, thread_in, PartsAfter}
 use Rattle.run_law.proofs.OneRank.{rank_set}
 use Rattle.run_law.proofs.KnownHere.{Here, known_here as comm_known}

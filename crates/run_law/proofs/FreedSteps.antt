@@ -12,7 +12,7 @@ use Rattle.comm_law.specs.Comms.{Comms as Known}
 use Rattle.mpi_protocol.specs.declared.rows.Waits.TheVariants.{Creation as Creates, Uncoloured}
 use Rattle.mpi_protocol.specs.Rank.{Rank}
 use Rattle.run_law.proofs.Rows.{row_in}
-use Rattle.run_law.proofs.Dues.{Dues}
+use Rattle.due_law.specs.Dues.{Dues}
 use Rattle.run_law.proofs.Locals.{LocalFits}
 use Rattle.run_law.proofs.Threads.{row_of}
 use Rattle.run_law.proofs.Masks.{MaskFits}

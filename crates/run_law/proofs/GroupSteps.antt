@@ -29,7 +29,7 @@ use Rattle.mpi_protocol.specs.Calls.{key_under, called}
 use Rattle.run_law.proofs.Lists.{get_or_past}
 use Rattle.run_law.proofs.Rows.{row_in}
 use Rattle.run_law.proofs.Contexts.{comm_of_is, live_member}
-use Rattle.run_law.proofs.Dues.{Dues}
+use Rattle.due_law.specs.Dues.{Dues}
 use Rattle.run_law.proofs.Locals.{CommNamed}
 use Rattle.run_law.proofs.Threads.{row_of, part_row}
 use Rattle.run_law.proofs.Creations.{creation_in, comm_in}
@@ -37,7 +37,7 @@ use Rattle.run_law.proofs.Comms.{CommFits, CommsFit}
 use Rattle.run_law.proofs.Wholes.{ParentFits, GroupFits, number_in, is_open_row}
 use Rattle.run_law.proofs.Allowing.{same_name_is, same_name-refl, where_is}
 use Rattle.run_law.proofs.Joined.{rank_in, Joined}
-use Rattle.run_law.proofs.Agreed.{Untold}
+use Rattle.due_law.specs.Agreed.{Untold}
 use Rattle.run_law.proofs.Waiters.{thread_inside}
 use Rattle.run_law.proofs.Parts.{thread_in, PartsAfter}
 use Rattle.run_law.proofs.JoinWholes.{rows, counts}

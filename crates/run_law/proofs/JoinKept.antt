@@ -11,7 +11,7 @@ use Rattle.mpi_law.specs.Registry.State.{Registry, RankPart, ThreadPart, Communi
 use Rattle.mpi_law.specs.Registry.Creations.{is_split, is_nil, is_counted_on, parent_of, caller_of, has_called, all_called, called_on, outcome_for, place_where, is_joinable, with_caller}
 use Rattle.mpi_protocol.specs.Rank.{Rank}
 use Rattle.run_law.proofs.Lists.{one}
-use Rattle.run_law.proofs.Dues.{Dues}
+use Rattle.due_law.specs.Dues.{Dues}
 use Rattle.run_law.proofs.Creations.{creation_in}
 use Rattle.run_law.proofs.Wholes.{Wholes, ParentFits, GroupFits, number_in, is_open_row}
 use Rattle.run_law.proofs.Joined.{Joined}

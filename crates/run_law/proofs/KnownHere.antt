@@ -10,7 +10,7 @@ use Rattle.comm_law.specs.declared.rows.CommRow.{CommRow}
 use Rattle.comm_law.specs.Comms.{comm_at}
 use Rattle.mpi_protocol.specs.Rank.{Rank}
 use Rattle.run_law.proofs.Rows.{row_in}
-use Rattle.run_law.proofs.Dues.{Dues}
+use Rattle.due_law.specs.Dues.{Dues}
 use Rattle.run_law.proofs.Locals.{CommNamed}
 use Rattle.run_law.proofs.Creations.{comm_in}
 use Rattle.run_law.proofs.Comms.{CommFits, KnownComm}

@@ -14,7 +14,7 @@ use Rattle.mpi_protocol.specs.Rank.{Rank}
 use Rattle.mpi_protocol.specs.Step.{may_leave, leaves}
 use Rattle.run_law.proofs.Lists.{tally}
 use Rattle.run_law.proofs.Rows.{row_in}
-use Rattle.run_law.proofs.Dues.{Dues}
+use Rattle.due_law.specs.Dues.{Dues}
 use Rattle.run_law.proofs.Creations.{comm_in}
 use Rattle.run_law.proofs.Comms.{is_live, KnownComm, CommFits, CommsFit, is_numbered}
 use Rattle.run_law.proofs.Joined.{rank_in, Joined}

@@ -23,7 +23,7 @@ use Rattle.mpi_protocol.specs.Rank.{Rank}
 use Rattle.run_law.proofs.Lists.{none_at}
 use Rattle.run_law.proofs.Rows.{row_in}
 use Rattle.run_law.proofs.Contexts.{comm_of_live}
-use Rattle.run_law.proofs.Dues.{Dues}
+use Rattle.due_law.specs.Dues.{Dues}
 use Rattle.run_law.proofs.Locals.{BoundFits}
 use Rattle.run_law.proofs.Threads.{part_row}
 use Rattle.run_law.proofs.Creations.{comm_in, creation_in}
@@ -42,7 +42,7 @@ left_dead Live e = absurd (cc (e))
 left_dead Freed e = refl
 left_dead Left e = refl
 
-live_stays : (st : CommStage) → is_live st ≡ true → is_left st ≡ false
+pub live_stays : (st : CommStage) → is_live st ≡ true → is_left st ≡ false
 live_stays Live e = refl
 live_stays Freed e = absurd (cc (e))
 live_stays Left e = absurd (cc (e))

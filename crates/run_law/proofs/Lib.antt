@@ -1,7 +1,6 @@
 pub mod Lists
 pub mod Rows
 pub mod Contexts
-pub mod Dues
 pub mod Locals
 pub mod Threads
 pub mod Masks

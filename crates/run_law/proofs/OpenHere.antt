@@ -17,7 +17,7 @@ use Rattle.mpi_protocol.specs.Rank as ranks_rank
 use Rattle.mpi_protocol.specs.Rank.{Rank, idle_thread, is_open_here}
 use Rattle.mpi_protocol.specs.Calls.{key_from, key_under}
 use Rattle.run_law.proofs.Lists.{any_tally}
-use Rattle.run_law.proofs.Dues.{Dues}
+use Rattle.due_law.specs.Dues.{Dues}
 use Rattle.run_law.proofs.Threads.{WaitFits, row_of, part_row}
 use Rattle.run_law.proofs.Creations.{CallerFits}
 use Rattle.run_law.proofs.Names.{Standing, by_group, by_parent, standing, name_on, has_parent}

@@ -10,7 +10,7 @@ use Rattle.mpi_protocol.specs.declared.rows.Waits.TheVariants.{Nothing}
 use Rattle.mpi_protocol.specs.declared.rows.ThreadRow.{ThreadRow}
 use Rattle.mpi_protocol.specs.Rank.{Rank, fresh, idle_thread}
 use Rattle.mpi_protocol.specs.World.{opening, blank}
-use Rattle.run_law.proofs.Dues.{none_due}
+use Rattle.due_law.specs.Dues.{none_due}
 use Rattle.run_law.proofs.Locals.{LocalFits}
 use Rattle.run_law.proofs.Threads.{row_of, part_row, WaitFits, ThreadsFit}
 use Rattle.run_law.proofs.Rows.{row_in}

@@ -7,7 +7,7 @@ use Rattle.mpi_protocol.specs.Packets.{Packet}
 use Rattle.mpi_protocol.specs.Rank.{Rank}
 use Rattle.mpi_protocol.specs.Step.{step, is_enabled}
 use Rattle.mpi_protocol.specs.World.{opening}
-use Rattle.run_law.proofs.Dues.{Dues}
+use Rattle.due_law.specs.Dues.{Dues}
 use Rattle.run_law.proofs.Joined.{rank_in, Joined}
 use Rattle.run_law.proofs.OneRank.{each_rank}
 use Rattle.run_law.proofs.Opening.{each_fresh}

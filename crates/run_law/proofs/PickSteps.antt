@@ -18,14 +18,14 @@ use Rattle.mpi_protocol.specs.Rank.{Rank}
 use Rattle.run_law.proofs.Lists.{get_or-append, get_or-last, get_or_past, length-snoc}
 use Rattle.run_law.proofs.Rows.{or_else, row_in}
 use Rattle.run_law.proofs.Contexts.{comm_of-append, stay_more, picked_apart}
-use Rattle.run_law.proofs.Dues.{Dues, due_said}
+use Rattle.due_law.specs.Dues.{Dues, due_said}
 use Rattle.run_law.proofs.Creations.{MadeFits, comm_in, creation_in}
 use Rattle.run_law.proofs.Comms.{CommFits, Comms}
 use Rattle.run_law.proofs.Frames.{Grown, grown-refl, locals-grown, free-grown}
 use Rattle.run_law.proofs.Wholes.{BackIsFreed}
 use Rattle.run_law.proofs.PickedRows.{at_place}
 use Rattle.run_law.proofs.Joined.{rank_in, Joined}
-use Rattle.run_law.proofs.Agreed.{AllOffered, IsFreeInMasks, Lacking}
+use Rattle.due_law.specs.Agreed.{AllOffered, IsFreeInMasks, Lacking}
 use Rattle.run_law.proofs.Deciding.{Deciding, deciding}
 use Rattle.run_law.proofs.Allowing.{place_is, may_pick, free_context, none_picked, taken_context}
 use Rattle.run_law.proofs.Picking.{rows, creations_after}

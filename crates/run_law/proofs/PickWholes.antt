@@ -15,7 +15,7 @@ use Rattle.comm_law.specs.declared.rows.CommRow.{CommRow}
 use Rattle.mpi_protocol.specs.Rank.{Rank}
 use Rattle.run_law.proofs.Rows.{or_else, row_in}
 use Rattle.run_law.proofs.Contexts.{Apart, comm_of_is}
-use Rattle.run_law.proofs.Dues.{Dues, due_said}
+use Rattle.due_law.specs.Dues.{Dues, due_said}
 use Rattle.run_law.proofs.Threads.{part_row}
 use Rattle.run_law.proofs.Creations.{DueFits, creation_in}
 use Rattle.run_law.proofs.Comms.{DueComm, CommFits, Comms}
@@ -24,7 +24,7 @@ use Rattle.run_law.proofs.Frames.{Grown, known-grown, free-grown, parent-grown, 
 use Rattle.run_law.proofs.PickedRows.{called_on-set, outcome_for-pick, open_row-pick}
 use Rattle.run_law.proofs.Joined.{rank_in, Joined}
 use Rattle.run_law.proofs.Deciding.{Deciding}
-use Rattle.run_law.proofs.Agreed.{AllOffered}
+use Rattle.due_law.specs.Agreed.{AllOffered}
 use Rattle.run_law.proofs.Picking.{pick, picked, rows, row_after, long, due_stays}
 
 module _ (s : Setting) (ranks : List Rank) (due : Dues) (g : Registry) (key : Key) (j : Joined s ranks due g) (a : AllOffered s ranks due key) (d : Deciding s ranks due g key j a)

@@ -14,7 +14,7 @@ use Rattle.agree_law.specs.Part.{stage_of}
 use Rattle.mpi_protocol.specs.declared.rows.Waits.TheVariants.{Creation as Creates, Uncoloured}
 use Rattle.mpi_protocol.specs.Rank.{Rank}
 use Rattle.run_law.proofs.Rows.{or_else_none}
-use Rattle.run_law.proofs.Dues.{Dues, due_said}
+use Rattle.due_law.specs.Dues.{Dues, due_said}
 use Rattle.run_law.proofs.Threads.{row_of, part_row, is_for}
 use Rattle.run_law.proofs.Creations.{DueFits, StageFits, CreationFits, UncolouredFits, Creations, creation_in}
 use Rattle.run_law.proofs.Names.{stands_on}
@@ -24,7 +24,7 @@ use Rattle.run_law.proofs.Classes.{coloured}
 use Rattle.run_law.proofs.Joined.{rank_in, Joined}
 use Rattle.run_law.proofs.Waiters.{one_thread, one_waiter, thread_inside}
 use Rattle.run_law.proofs.Deciding.{Deciding}
-use Rattle.run_law.proofs.Agreed.{AllOffered}
+use Rattle.due_law.specs.Agreed.{AllOffered}
 
 module _ (s : Setting) (ranks : List Rank) (due : Dues) (g : Registry) (key : Key) (j : Joined s ranks due g) (a : AllOffered s ranks due key) (d : Deciding s ranks due g key j a)
     (v : Verdict) (out : Outcome) (more : List Communicator) (grown : Grown g.comms more)

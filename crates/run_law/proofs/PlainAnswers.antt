@@ -18,7 +18,7 @@ use Rattle.mpi_protocol.specs.declared.rows.Waits.TheVariants.{Nothing, Freeing,
 use Rattle.mpi_protocol.specs.Rank.{Rank}
 use Rattle.mpi_protocol.specs.Answers.{answered, answers, is_answerable}
 use Rattle.mpi_protocol.specs.Run.{reply_events}
-use Rattle.run_law.proofs.Dues.{Dues}
+use Rattle.due_law.specs.Dues.{Dues}
 use Rattle.run_law.proofs.Threads.{WaitFits, row_of, part_row}
 use Rattle.run_law.proofs.Joined.{rank_in, Joined}
 use Rattle.run_law.proofs.Bindings.{BothBound, neither, both, bound-fits}

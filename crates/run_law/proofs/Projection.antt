@@ -16,9 +16,9 @@ use Rattle.agree_law.proofs.TreeFacts.{member_place, place_member}
 use Rattle.mpi_protocol.specs.Rank.{Rank}
 use Rattle.mpi_protocol.specs.World.{blank}
 use Rattle.run_law.proofs.Lists.{get_or-map}
-use Rattle.run_law.proofs.Dues.{Dues}
+use Rattle.due_law.specs.Dues.{Dues}
 use Rattle.run_law.proofs.Joined.{rank_in}
-use Rattle.run_law.proofs.Agreed.{HasOffered, AllOffered, IsFreeInMasks, Lacking}
+use Rattle.due_law.specs.Agreed.{HasOffered, AllOffered, IsFreeInMasks, Lacking}
 
 module _ (s : Setting) (ranks : List Rank) (due : Dues) (key : Key) (w : agree.World) (parts : w.parts ≡ map (λ (x : Rank). x.agree) ranks) where
   part_is : (r : ℕ) → agree.part_at w r ≡ (rank_in ranks r).agree

@@ -28,9 +28,9 @@ use Rattle.mpi_protocol.specs.Moves.{Move}
 use Rattle.mpi_protocol.specs.Delivers.{delivers, taken_if}
 use Rattle.mpi_protocol.specs.Delivers as ranks_deliver
 use Rattle.mpi_protocol.specs.Run.{pick_events}
-use Rattle.run_law.proofs.Dues.{Dues, due_said, due_taken}
+use Rattle.due_law.specs.Dues.{Dues, due_said, due_taken}
 use Rattle.run_law.proofs.Joined.{rank_in, Joined}
-use Rattle.run_law.proofs.Agreed.{HasOffered, AllOffered, IsFreeInMasks, Lacking, TakesFinal}
+use Rattle.due_law.specs.Agreed.{HasOffered, AllOffered, IsFreeInMasks, Lacking, TakesFinal}
 use Rattle.run_law.proofs.PickSteps.{exhausted_allowed, exhausted_joined, pick_allowed, pick_joined}
 use Rattle.run_law.proofs.TakingSteps.{exhausted_taken, context_taken}
 

@@ -27,7 +27,7 @@ use Rattle.mpi_protocol.specs.declared.rows.ThreadRow.{ThreadRow}
 use Rattle.mpi_protocol.specs.Rank.{Rank, goes_on, going_on, with_key}
 use Rattle.mpi_protocol.specs.Agreeing.{next_key}
 use Rattle.run_law.proofs.Lists.{one, length-map}
-use Rattle.run_law.proofs.Dues.{Dues}
+use Rattle.due_law.specs.Dues.{Dues}
 use Rattle.run_law.proofs.Locals.{LocalFits}
 use Rattle.run_law.proofs.Threads.{row_of, ThreadsFit}
 use Rattle.run_law.proofs.Masks.{MaskFits}
@@ -36,7 +36,7 @@ use Rattle.run_law.proofs.Comms.{CommsFit}
 use Rattle.run_law.proofs.Wholes.{is_open_row}
 use Rattle.run_law.proofs.Names.{Standing, by_group, by_parent, standing, stands_by, name_on}
 use Rattle.run_law.proofs.Joined.{rank_in, Joined}
-use Rattle.run_law.proofs.Agreed.{Untold}
+use Rattle.due_law.specs.Agreed.{Untold}
 use Rattle.run_law.proofs.OneRank.{each_rank, sizes_set}
 use Rattle.run_law.proofs.Parts.{thread_in}
 use Rattle.run_law.proofs.Waiters.{Waiter, waiter_of, one_thread, one_waiter, thread_inside}

@@ -32,14 +32,15 @@ use Rattle.mpi_protocol.specs.Delivers.{delivers, taken_if}
 use Rattle.mpi_base.specs.declared.entries.Said.TheVariants as said
 use Rattle.mpi_protocol.specs.Run.{pick_events}
 use Rattle.run_law.proofs.Lists.{length-map}
-use Rattle.run_law.proofs.Dues.{Dues}
+use Rattle.due_law.specs.Dues.{Dues}
 use Rattle.run_law.proofs.Threads.{row_of}
 use Rattle.run_law.proofs.Creations.{MembersFit, ShareFits, CreationFits, creation_in, is_sharing}
 use Rattle.run_law.proofs.Wholes.{is_open_row}
 use Rattle.run_law.proofs.Names.{stands_at}
 use Rattle.run_law.proofs.Classes.{each_member}
 use Rattle.run_law.proofs.Joined.{rank_in, Joined}
-use Rattle.run_law.proofs.Agreed.{Untold, TellsShare, AllTold}
+use Rattle.due_law.specs.Agreed.{Untold}
+use Rattle.run_law.proofs.Agreed.{TellsShare, AllTold}
 use Rattle.run_law.proofs.Parts.{thread_in}
 use Rattle.run_law.proofs.Waiters.{waiter_of}
 use Rattle.run_law.proofs.ShareClasses.{SharesOf, item_in, item_at}

@@ -25,14 +25,14 @@ use Rattle.mpi_protocol.specs.declared.rows.ThreadRow.{ThreadRow}
 use Rattle.mpi_protocol.specs.Rank.{Rank}
 use Rattle.run_law.proofs.Lists.{one}
 use Rattle.run_law.proofs.Rows.{row_in}
-use Rattle.run_law.proofs.Dues.{Dues, due_taken}
+use Rattle.due_law.specs.Dues.{Dues, due_taken}
 use Rattle.run_law.proofs.Locals.{BoundFits, NamesFit, LocalFits}
 use Rattle.run_law.proofs.Threads.{row_of, part_row, ThreadsFit}
 use Rattle.run_law.proofs.Masks.{MaskFits}
 use Rattle.run_law.proofs.Creations.{DoneFits, StageFits, CreationFits, UncolouredFits, creation_in}
 use Rattle.run_law.proofs.Comms.{CommFits, CommsFit}
 use Rattle.run_law.proofs.Joined.{rank_in, Joined}
-use Rattle.run_law.proofs.Agreed.{TakesFinal}
+use Rattle.due_law.specs.Agreed.{TakesFinal}
 use Rattle.run_law.proofs.OneRank.{each_rank, sizes_set}
 use Rattle.run_law.proofs.Waiters.{Waiter, thread_inside}
 

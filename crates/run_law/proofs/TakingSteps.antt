@@ -19,7 +19,7 @@ use Rattle.comm_law.specs.declared.rows.CommRow.{CommRow}
 use Rattle.comm_law.specs.Comms.{Comms as Known, add}
 use Rattle.mpi_protocol.specs.Rank.{Rank, session_of}
 use Rattle.run_law.proofs.Rows.{or_else, row_in, row_in-append, added_row}
-use Rattle.run_law.proofs.Dues.{Dues, due_taken}
+use Rattle.due_law.specs.Dues.{Dues, due_taken}
 use Rattle.run_law.proofs.Creations.{comm_in}
 use Rattle.run_law.proofs.Comms.{DueComm, KnownComm, CommFits, FreeFits, CommsFit, is_numbered, is_other}
 use Rattle.run_law.proofs.Lists.{tally, one}
@@ -27,7 +27,7 @@ use Rattle.run_law.proofs.Bindings.{tally-snoc}
 use Rattle.run_law.proofs.Joined.{rank_in, Joined}
 use Rattle.run_law.proofs.Waiters.{Waiter, waiter_of}
 use Rattle.run_law.proofs.Taking.{with_end, taken_joined}
-use Rattle.run_law.proofs.Agreed.{TakesFinal}
+use Rattle.due_law.specs.Agreed.{TakesFinal}
 use Rattle.run_law.proofs.TakingEnds.{mask_more, unbound, session_is, Picked, picked_of, exhausted_of}
 
 pub owner_is : (w : Option Key) (k l : Key) → is_key w k ≡ true → is_key w l ≡ true → k ≡ l

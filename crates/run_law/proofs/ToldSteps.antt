@@ -18,11 +18,12 @@ use Rattle.agree_law.specs.Shares.{takes_shares}
 use Rattle.mpi_protocol.specs.Packets.{Agreeing}
 use Rattle.mpi_protocol.specs.Rank.{Rank}
 use Rattle.mpi_protocol.specs.Delivers.{delivers}
-use Rattle.run_law.proofs.Dues.{Dues}
+use Rattle.due_law.specs.Dues.{Dues}
 use Rattle.run_law.proofs.Creations.{creation_in, is_sharing}
 use Rattle.run_law.proofs.Names.{stands_on}
 use Rattle.run_law.proofs.Joined.{rank_in, Joined}
-use Rattle.run_law.proofs.Agreed.{Untold, AllTold}
+use Rattle.due_law.specs.Agreed.{Untold}
+use Rattle.run_law.proofs.Agreed.{AllTold}
 use Rattle.run_law.proofs.Parts.{thread_in}
 use Rattle.run_law.proofs.Waiters.{waiter_of}
 use Rattle.run_law.proofs.ChangedComms.{stands_else}

@@ -19,7 +19,7 @@ use Rattle.mpi_protocol.specs.declared.rows.Waits.TheVariants.{Creation as Creat
 use Rattle.mpi_protocol.specs.Rank.{Rank}
 use Rattle.run_law.proofs.Lists.{one}
 use Rattle.run_law.proofs.Rows.{row_in}
-use Rattle.run_law.proofs.Dues.{Dues}
+use Rattle.due_law.specs.Dues.{Dues}
 use Rattle.run_law.proofs.Locals.{LocalFits}
 use Rattle.run_law.proofs.Threads.{row_of, part_row, ThreadsFit}
 use Rattle.run_law.proofs.Masks.{MaskFits}

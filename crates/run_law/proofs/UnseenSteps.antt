@@ -24,7 +24,7 @@ use Rattle.mpi_protocol.specs.Moves.{Move}
 use Rattle.mpi_protocol.specs.Agreeing.{offers, settles, verdict_at}
 use Rattle.mpi_protocol.specs.Delivers as ranks_deliver
 use Rattle.mpi_protocol.specs.Delivers.{delivers, taken_if}
-use Rattle.run_law.proofs.Dues.{Dues}
+use Rattle.due_law.specs.Dues.{Dues}
 use Rattle.run_law.proofs.Locals.{LocalFits}
 use Rattle.run_law.proofs.Threads.{ThreadsFit, row_of, part_row}
 use Rattle.run_law.proofs.Masks.{MaskFits}

@@ -15,5 +15,6 @@ returns-clause-run g c =
     let entries = c.into_journal-journal.result.entries in
     world_run _ s scripts _ _ entries _ told c.in_ok-job.ensures.setting c.in_ok-world.ensures.setting c.in_ok-world.ensures.opening c.in_ok-world.ensures.entries
     c.drain.ensures.setting c.drain.ensures.drained c.in_ok-drain.ensures.quiet c.into_journal-journal.ensures.run c.into_journal-journal.ensures.end c.into_journal-journal.ensures.entries
+    (c.runs_are_registry_runs.ensures s entries (c.sets_of_jobs_are_of_ranks.ensures c.deref.result.now s scripts c.in_ok-job.ensures.ok))
     (c.drained_calls_are_of_scripts.ensures s scripts entries) (c.ranks_stay.ensures s entries) (c.ended_scripts_are_called_whole.ensures s scripts entries)
     c.ranks_are_idle-ended.ensures.idle c.ranks_are_idle-ended.ensures.waits

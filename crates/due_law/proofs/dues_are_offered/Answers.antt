@@ -1,0 +1,8 @@
+use Rattle.agree_law.specs.World.{run, opening}
+use Rattle.due_law.specs.Dues.{dues_after}
+use Rattle.due_law.proofs.Law.{holding_always}
+use Rattle.due_law.proofs.DueFacts.{dues_are_offered}
+use Rattle.due_law.proofs.dues_are_offered.Goals as goal
+
+pub returns : goal.returns
+returns c = λ ranks top events. dues_are_offered top (run top events (opening ranks top)) (dues_after ranks top events) (holding_always ranks top events)

@@ -1,0 +1,4 @@
+pub mod Dues
+pub mod Facts
+pub mod Agreed
+pub mod Runs
