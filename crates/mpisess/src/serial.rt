@@ -98,11 +98,11 @@ fn run_job<S: Source>(alloc: Global, source: &mut S) -> Result<Ran, Stop>
 {
     let bytes = read_input(alloc, source)?;
     let job = read_job(alloc, &bytes)?;
+    sets_of_jobs_are_of_ranks();
     let mut world = World::<1>::start(alloc, job.setting)?;
     drain(&mut world, &job.scripts)?;
     let ended = ranks_are_idle(&world);
     let journal = world.into_journal();
-    sets_of_jobs_are_of_ranks();
     runs_are_registry_runs();
     ranks_stay();
     drained_calls_are_of_scripts();

@@ -168,10 +168,9 @@ impl From<OutOfMemory> for Stop {
 /// The source is read to its end before anything is run, and the sink is written when the run is over.
 /// Fine comes where every script is ended, Stuck where nothing is left to do and some thread waits; `solo`
 /// never ends Stuck. Usage comes of other words, BadJob of an input that is no job, TooLong of too many
-/// bytes, ReadFault and WriteFault of a source and a sink that fail. `Memory` alone is tied to no cause;
-/// `serial` gives it also where the drain does not end within its count of steps, and that it always does
-/// is not proved yet. Nor is the clause `closed` proved of `serial` yet. Of a source or a sink that does
-/// not tell its bytes no clause about bytes says anything.
+/// bytes, ReadFault and WriteFault of a source and a sink that fail. `Memory` alone is tied to no cause.
+/// The clause `closed` is not proved of `serial` yet. Of a source or a sink that does not tell its bytes no
+/// clause about bytes says anything.
 #[tactic(auto, using(crate::proofs::Sessions::solo_is_not_serial))]
 pub fn mpisess_calm<S: Source, K: Sink>(
     alloc: Global,

@@ -5,6 +5,7 @@ use crate::session::{Done, Status, mpisess_calm};
 use history_text::{Line, read_entry, write_entry};
 use io_edge::{MemorySink, MemorySource, Source, SureSink, SureSource};
 use job_file::read_job;
+use job_law::sets_of_jobs_are_of_ranks;
 use mpi_base::Choice;
 use std::alloc::Global;
 use std::process::Abort;
@@ -395,6 +396,7 @@ const RETRIED: [&str; 4] = [
 
 #[test]
 fn a_creation_whose_rank_is_taken_tries_again(rt: HostRuntime) -> Result<(), Fail> {
+    sets_of_jobs_are_of_ranks();
     let job = read_job(rt.alloc(), OVERLAPPING).expect(&rt, "a job");
     let mut world = World::<1>::start(rt.alloc(), job.setting)?;
     drive(&rt, &mut world, &RETRY)?;

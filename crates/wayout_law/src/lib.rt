@@ -4,8 +4,7 @@
 //! Each law has the premises of the laws of the agreement in protocol runs: `SetsAreOfRanks`, that the members of each
 //! process set are distinct ranks, and that each communicator that a caller has a name for is known to its rank and
 //! not left there (`CallersNamesAreKnown` in a journal, `NamesAreKnownFrom` in what the drain goes on to do,
-//! `NamesAreKnownInRuns` in every protocol run). The second is still to be proved of every protocol run, from the laws
-//! of names and communicators.
+//! `NamesAreKnownInRuns` in every protocol run). The second holds of every protocol run (`registry_law`).
 #![tactic(auto)]
 
 ghost use Rattle.std.specs.Prelude.{List};

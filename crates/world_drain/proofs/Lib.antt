@@ -3,3 +3,4 @@ pub mod Going
 pub mod Offers
 pub mod Ranks
 pub mod Searched
+mod Short
