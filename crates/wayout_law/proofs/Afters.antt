@@ -8,12 +8,12 @@ use Rattle.agree_law.specs.Part.{round_of}
 use Rattle.agree_law.proofs.Lists.{set_place, length-set}
 use Rattle.mpi_protocol.specs.Rank.{Rank}
 use Rattle.mpi_protocol.specs.Moves.{Move}
-use Rattle.mpi_protocol.specs.World.{World, blank, rank_at, taken_off, after}
+use Rattle.mpi_protocol.specs.World.{World, blank, rank_at, after}
+use Rattle.projection_law.proofs.Frames.{ranks_moved}
 use Rattle.wayout_law.specs.Potential.{first_round}
-use Rattle.wayout_law.proofs.Worlds.{put_on-ranks}
 
 ranks-after : (w : World) (c : Choice) (m : Move) → (after w c m).ranks ≡ set w.ranks c.rank m.state
-ranks-after w c m = put_on-ranks (record (taken_off w c.rank c.act) { ranks = set w.ranks c.rank m.state }) c.rank m.sent
+ranks-after w c m = ranks_moved w c.rank c.act m
 
 pub many-after : (w : World) (c : Choice) (m : Move) → length (after w c m).ranks ≡ length w.ranks
 many-after w c m = rw (ranks-after w c m) (length-set w.ranks c.rank m.state)

@@ -55,7 +55,7 @@ abbrev pub NoPackets : World → Type 0
 NoPackets w = (from to : ℕ) → from < length w.ranks → to < length w.ranks → (from == to) ≡ false → link w from to ≡ []
 
 -- a packet of a key on its way is on the link from its sender to its receiver
-key_on_link : (fs : List Flight) (key : Key) (f : Flight) (rest : List Flight) → of_links fs key ≡ f ∷ rest → flights_on fs f.from f.to ≡ [] → ⊥
+pub key_on_link : (fs : List Flight) (key : Key) (f : Flight) (rest : List Flight) → of_links fs key ≡ f ∷ rest → flights_on fs f.from f.to ≡ [] → ⊥
 key_on_link [] key f rest e none = absurd (cc (e))
 key_on_link (g ∷ gs) key f rest e none = go (key_on_link gs key f rest) (same_key (key_of g.packet) key) refl e (is_on f.from f.to g) refl none
   where
@@ -70,13 +70,13 @@ key_on_link (g ∷ gs) key f rest e none = go (key_on_link gs key f rest) (same_
         absurd (cc (a, c))
 
 -- the ends of an edge of the tree are two ranks
-record Ends (size from to : ℕ) : Type 0 where
+pub record Ends (size from to : ℕ) : Type 0 where
   pub sender : from < size
   pub receiver : to < size
   pub apart : (from == to) ≡ false
 
 -- the rank at each place, below a number, and another at another place
-record Seats (n size : ℕ) (m : ℕ → ℕ) : Type 0 where
+pub record Seats (n size : ℕ) (m : ℕ → ℕ) : Type 0 where
   pub inside : (p : ℕ) → p < n → m p < size
   pub distinct : Distinct n m
 
@@ -88,7 +88,7 @@ edge_ends n size m p lower upper seats e =
     let far : (p == parent_of p) ≡ false = grind (arith, nat_tests, less) in
     record { sender = rw e.low (seats.inside p lt); receiver = rw e.high (seats.inside (parent_of p) above); apart = rw (e.low, e.high) (seats.distinct p (parent_of p) lt above ∙ far) }
 
-turned : (size from to : ℕ) → Ends size from to → Ends size to from
+pub turned : (size from to : ℕ) → Ends size from to → Ends size to from
 turned size from to e = let a = e.apart in record { sender = e.receiver; receiver = e.sender; apart = grind (arith, nat_tests, a) }
 
 -- a packet of the tree goes from a rank to another

@@ -15,9 +15,10 @@ use Rattle.agree_law.specs.Rule.{is_key}
 use Rattle.agree_law.specs.Kinds.{is_share}
 use Rattle.agree_law.specs.World.{World, part_at}
 use Rattle.agree_law.specs.Facts.{OwnerHasOffered}
-use Rattle.agree_law.proofs.Lists.{AllOf, tally, tally_any, one}
+use Rattle.agree_law.proofs.Lists.{AllOf, tally, one}
 use Rattle.agree_law.proofs.TreeFacts.{member_place, child_above}
 use Rattle.agree_law.proofs.RowFacts.{of_key, at_place, is_whole, own_of, all_own_is}
+use Rattle.agree_law.proofs.Decide.{whole_own}
 use Rattle.agree_law.proofs.KeyKept.{View, stage_fits, Held, KeyKept}
 use Rattle.agree_law.proofs.Kept.{is_good_at, OfferFits, seat, Kept}
 use Rattle.agree_law.proofs.DownSteps.{seat_is}
@@ -35,11 +36,6 @@ no_own (Some Called) g c owns pos off e = absurd (grind (arith, nat_tests, e, po
 no_own (Some (Waiting i)) g c owns pos off e = grind (arith, nat_tests, e)
 no_own (Some (Offered i own)) g c owns pos off e = absurd (cc)
 no_own (Some (Done o)) g c owns pos off e = grind (arith, nat_tests, e)
-
--- who is whole has its own
-whole_own : (os : List Offer) (p n : ℕ) → is_whole os p n ≡ true → 1 ≤ tally (at_place p) os
-unfolding is_whole
-whole_own os p n e = let a = tally_any (at_place p) os in grind (arith, nat_tests, a, e)
 
 abbrev Offers : (n : ℕ) → (ℕ → View) → Type 0
 Offers n V = (p : ℕ) → p < n → is_offered (V p).stage ≡ false

@@ -81,14 +81,14 @@ awaits-dear n more r a key i Exhausted e = round-dear n more a.gathered r key i 
 
 -- Offers
 
-due-stage : (s : Option Stage) → is_due s ≡ true → (i : ℕ) × (s ≡ Some (Waiting i))
-due-stage (Some (Waiting i)) e = (i, refl)
-due-stage s e = absurd (cc)
+pub due_waits : (s : Option Stage) → is_due s ≡ true → (i : ℕ) × (s ≡ Some (Waiting i))
+due_waits (Some (Waiting i)) e = (i, refl)
+due_waits s e = absurd (cc)
 
 pub spend-offers : (n : ℕ) (more : More) (scripts : AllScripts) (r : ℕ) (x : Rank) (key : Key) → OneEach x.agree.opened → may_offer x.agree key ≡ true → Spends n more scripts r x None (offers x key)
 unfolding offers
 spend-offers n more scripts r x key one may =
-    let i = due-stage (stage_of x.agree.opened key) may in
+    let i = due_waits (stage_of x.agree.opened key) may in
     let c = offer-cost n more x.rank x.setting.contexts x.agree key i.0 one i.1 in
     omega (arith, c)
 

@@ -14,7 +14,7 @@ use Rattle.agree_law.specs.declared.rows.Verdict.{Verdict}
 use Rattle.agree_law.specs.declared.rows.Verdict.TheVariants.{Ready, Retry, Context, Exhausted}
 use Rattle.agree_law.specs.Part.{Agree, stage_of, set_stage, round_of}
 use Rattle.agree_law.specs.Kinds.{is_share}
-use Rattle.agree_law.specs.Offers.{is_due, may_offer, put_offer}
+use Rattle.agree_law.specs.Offers.{may_offer, put_offer}
 use Rattle.agree_law.specs.Moves.{may_settle}
 use Rattle.agree_law.specs.Rule.{may_own}
 use Rattle.agree_law.proofs.KeyKept.{is_said_of}
@@ -26,7 +26,7 @@ use Rattle.mpi_protocol.specs.Order.{is_offered, offered_anywhere}
 use Rattle.wayout_law.specs.Potential.{More, cost, first_round}
 use Rattle.wayout_law.proofs.AgreeSpends.{Falls}
 use Rattle.wayout_law.proofs.Worlds.{after-spends}
-use Rattle.wayout_law.proofs.Decisions.{SharesAreTaken, settler_told, spend-settles, spend-offers}
+use Rattle.wayout_law.proofs.Decisions.{SharesAreTaken, settler_told, spend-settles, spend-offers, due_waits}
 use Rattle.wayout_law.proofs.Frames.{Frame}
 use Rattle.wayout_law.proofs.Settling.{frame-settle_share, offer-part, offer-stage}
 use Rattle.wayout_law.proofs.Agreements.{NoPackets}
@@ -101,10 +101,6 @@ offer_may w r key may = (grind (arith, nat_tests, may), grind (arith, may))
 pub offer-move : (w : World) (r : ℕ) (key : Key) → move_of w (offer_choice r key) ≡ offers (rank_at w r) key
 unfolding step
 offer-move w r key = refl
-
-pub due_waits : (s : Option Stage) → is_due s ≡ true → (i : ℕ) × (s ≡ Some (Waiting i))
-due_waits (Some (Waiting i)) e = (i, refl)
-due_waits s e = absurd (cc)
 
 pub offered_is : (s : Option Stage) → is_offered s ≡ true → (i : ℕ) × (own : Bool) × (s ≡ Some (Offered i own))
 offered_is (Some (Offered i own)) e = (i, own, refl)

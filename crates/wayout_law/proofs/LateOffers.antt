@@ -24,11 +24,11 @@ use Rattle.mpi_protocol.specs.World.{World, rank_at, may_happen, moved}
 use Rattle.mpi_protocol.specs.Order.{is_offered, offered_anywhere}
 use Rattle.wayout_law.specs.Potential.{more_late}
 use Rattle.wayout_law.proofs.Worlds.{after-spends}
-use Rattle.wayout_law.proofs.Decisions.{spend-offers}
+use Rattle.wayout_law.proofs.Decisions.{spend-offers, due_waits}
 use Rattle.wayout_law.proofs.Settling.{offer-part}
 use Rattle.wayout_law.proofs.Agreements.{NoPackets}
 use Rattle.wayout_law.proofs.Stands.{Stands, Nobody, stands-owner, stands-clear, stands-plain}
-use Rattle.wayout_law.proofs.EarlySettle.{offer_choice, offer_may, offer-move, due_waits, offered_at}
+use Rattle.wayout_law.proofs.EarlySettle.{offer_choice, offer_may, offer-move, offered_at}
 use Rattle.wayout_law.proofs.Calm.{is_calm, CalmSent}
 use Rattle.wayout_law.proofs.Late.{Alone, Late, Leaves, alone-after}
 use Rattle.wayout_law.proofs.LateMoves.{AloneAt, offer-leaves}

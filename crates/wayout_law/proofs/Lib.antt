@@ -16,6 +16,7 @@ pub mod Frames
 pub mod RankFrames
 pub mod Deliveries
 pub mod Agreements
+pub mod Exchanged
 pub mod Stands
 pub mod Settling
 pub mod Afters
@@ -42,3 +43,5 @@ pub mod SpotOrder
 pub mod Candidates
 pub mod FirstOrQuiet
 pub mod DrainEnds
+pub mod FromOpening
+mod Examples

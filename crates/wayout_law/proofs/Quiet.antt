@@ -1,7 +1,7 @@
 -- What holds where nothing but calls beyond the scripts is left: nothing is on its way, no key is offered or waits, no key owns a
--- mask, and no key has been called by all its members.
+-- mask, and no key and no exchange has been called by all its members.
 use Rattle.std.proofs.Common.{◌≡◌, ◌<◌, ◌≤◌, ◌==◌, ℕ, Bool, true, false, List, [], ◌∷◌, length, Option, Some, None, refl, sym, subst, arith}
-use Rattle.std.specs.Prelude.{is_none, nat_lt}
+use Rattle.std.specs.Prelude.{is_none, is_some, nat_lt}
 use Rattle.std.proofs.lemmas.Bool.Decides.{nat_tests}
 use Rattle.mpi_base.specs.declared.keys.Key.{Key}
 use Rattle.mpi_base.proofs.KeyFacts.{same_key-refl}
@@ -12,17 +12,19 @@ use Rattle.agree_law.specs.Part.{Agree, stage_of}
 use Rattle.agree_law.specs.Rule.{is_key, is_waiting}
 use Rattle.agree_law.specs.Offers.{may_offer}
 use Rattle.agree_law.specs.Moves.{may_settle}
-use Rattle.agree_law.specs.World.{part_at}
+use Rattle.agree_law.specs.World.{part_at, is_key_of}
 use Rattle.agree_law.proofs.Lists.{tally}
 use Rattle.agree_law.proofs.RowFacts.{at_place}
 use Rattle.agree_law.proofs.KeyKept.{stage_fits}
 use Rattle.agree_law.proofs.Kept.{is_good, seat}
+use Rattle.share_law.specs.Facts.{is_exchange, sharing_of}
 use Rattle.mpi_protocol.specs.Packets.{Packet}
 use Rattle.mpi_protocol.specs.World.{World, rank_at, link}
 use Rattle.mpi_protocol.specs.Order.{is_offered, IsQuiet}
 use Rattle.wayout_law.proofs.Rounds.{own_whole}
 use Rattle.wayout_law.proofs.AgreeFacts.{still_key, settles_first, first_is, all_at, members_inside}
 use Rattle.wayout_law.proofs.Agreements.{agreement-part, agreement-many, agreement-empty, NoPackets}
+use Rattle.wayout_law.proofs.Exchanged.{shared_settles}
 use Rattle.wayout_law.proofs.Stands.{Stands, Rests, Nobody, stands-nobody, stands-owner}
 use Rattle.wayout_law.proofs.Deliveries.{delivery_of}
 use Rattle.wayout_law.proofs.SettleFacts.{settle_of}
@@ -101,3 +103,20 @@ quiet-called top w scripts h quiet key good some called =
   where
     there : (p : ℕ) → p < length key.members → (seat h.agreed.parts key p).stage ≡ Some Called
     there p lt = subst (λ (z : Agree). stage_of z.opened key ≡ Some Called) (sym (agreement-part w h.agreed h.is_agreed (member_at key.members p))) (called p lt)
+
+first_inside : (n : ℕ) (key : Key) → is_exchange n key ≡ true → 0 < length key.members → member_at key.members 0 < n
+unfolding is_key_of
+first_inside n key good some = let m = all_at (λ m. nat_lt m n) key.members 0 (grind (arith, good)) some in grind (arith, nat_tests, m)
+
+-- an exchange that all members have called is settled
+pub quiet-shared : (top : ℕ) (w : World) (scripts : AllScripts) → Stands top w → IsQuiet w scripts → (key : Key) → is_exchange (length w.ranks) key ≡ true → 0 < length key.members
+    → ((p : ℕ) → p < length key.members → is_some (sharing_of (stage_of (rank_at w (member_at key.members p)).agree.opened key)) ≡ true) → ⊥
+quiet-shared top w scripts h quiet key good some shared =
+    let a = h.agreed in
+    let is = h.is_agreed in
+    let many = agreement-many w a is in
+    let r = member_at key.members 0 in
+    let yes = shared_settles w a key is h.exchanges (quiet-empty top w scripts h quiet) (rw many good) some (λ p lt. subst (λ (z : Agree). is_some (sharing_of (stage_of z.opened key)) ≡ true) (sym (agreement-part w a is (member_at key.members p))) (shared p lt)) in
+    let here = subst (λ (z : Agree). may_settle r z key ≡ true) (agreement-part w a is r) yes in
+    let none = quiet-settle top w scripts h quiet r key (first_inside (length w.ranks) key good some) in
+    absurd (cc (here, none))

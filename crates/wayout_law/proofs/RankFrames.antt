@@ -20,19 +20,18 @@ use Rattle.agree_law.specs.Packets.{Up, Down, Share, Shares}
 use Rattle.agree_law.specs.Verdicts.{take_down}
 use Rattle.agree_law.specs.Moves.{deliver}
 use Rattle.agree_law.specs.Moves as agree_moves
-use Rattle.match_law.specs.declared.rows.Posted.{Posted}
-use Rattle.match_law.specs.Box.{Box, arrive, post}
 use Rattle.comm_law.specs.Comms.{comm_at}
 use Rattle.mpi_protocol.specs.declared.rows.Waits.{Waits}
 use Rattle.mpi_protocol.specs.declared.rows.Waits.TheVariants.{Nothing, Creation, Uncoloured, Freeing, Ending, Receiving, Awaiting}
 use Rattle.mpi_protocol.specs.declared.rows.ReceiveRow.{ReceiveRow}
 use Rattle.mpi_protocol.specs.Packets.{Packet, Agreeing, Message, Marker}
 use Rattle.mpi_protocol.specs.Rank.{Rank, with_call, receive_of}
-use Rattle.mpi_protocol.specs.Moves.{arrives, arrives_to, posts, posts_to}
+use Rattle.mpi_protocol.specs.Moves.{arrives}
 use Rattle.mpi_protocol.specs.Calls.{key_from, key_on, key_under, around_here, opens, message_of, sent, posted_of, with_post, called, calls}
 use Rattle.mpi_protocol.specs.Answers.{outcome_of, answered, answers, answers_creation, answers_row, answers_taken}
 use Rattle.mpi_protocol.specs.Delivers.{takes_packet, taken}
 use Rattle.mpi_protocol.specs.Step.{leaves, gives_back}
+use Rattle.projection_law.proofs.Calls.{arrives_agree, posts_agree}
 use Rattle.wayout_law.proofs.Frames.{Frame, frame-same, frame-begin, frame-begin_share, frame-close, frame-give_back, frame-up, frame-share, frame-down, frame-shares}
 
 pub same : (r : ℕ) (x : Rank) → Frame r x.agree x.agree
@@ -68,22 +67,6 @@ pub frame-gives_back : (r : ℕ) (x : Rank) (c : ℕ) → Frame r x.agree (gives
 unfolding gives_back
 frame-gives_back r x c = frame-give_back r x.agree c
 
--- Messages
-
-arrives-agree : (x : Rank) (m : Msg) → (arrives x m).0.agree ≡ x.agree
-arrives-agree x m = go (arrive x.box m).0 (arrive x.box m).1
-  where
-    go : (b : Box) (o : Option Posted) → (arrives_to x m b o).0.agree ≡ x.agree
-    go b None = refl
-    go b (Some p) = refl
-
-posts-agree : (x : Rank) (p : Posted) → (posts x p).0.agree ≡ x.agree
-posts-agree x p = go (post x.box p).0 (post x.box p).1
-  where
-    go : (b : Box) (o : Option Msg) → (posts_to x p.number b o).0.agree ≡ x.agree
-    go b None = refl
-    go b (Some m) = refl
-
 -- Calls
 
 frame-opens : (x : Rank) (o : Origin ℕ) → Frame x.rank x.agree (opens x o).part
@@ -106,10 +89,10 @@ frame-called x t (Sends m) = go (member_at (comm_at x.comms m.comm).members m.to
     y = record x { local = x.local; threads = with_call x t Nothing; sends = x.sends + 1 }
 
     go : (b : Bool) → Frame x.rank x.agree (sent (if b then (arrives y (message_of x m), []) else ((y, None), record { to = member_at (comm_at x.comms m.comm).members m.to; packet = Message (message_of x m) } ∷ []))).state.agree
-    go true = rw (arrives-agree y (message_of x m)) (same x.rank x)
+    go true = rw (arrives_agree y (message_of x m)) (same x.rank x)
     go false = same x.rank x
-frame-called x t (Receives a) = rw (posts-agree (with_post x t x.local a (Receiving (x.posts + 1))) (posted_of x a)) (same x.rank x)
-frame-called x t (Posts target a) = rw (posts-agree (with_post x t (with_names x.local (bind x.local.names target (objects.Request (x.posts + 1)))) a Nothing) (posted_of x a)) (same x.rank x)
+frame-called x t (Receives a) = rw (posts_agree (with_post x t x.local a (Receiving (x.posts + 1))) (posted_of x a)) (same x.rank x)
+frame-called x t (Posts target a) = rw (posts_agree (with_post x t (with_names x.local (bind x.local.names target (objects.Request (x.posts + 1)))) a Nothing) (posted_of x a)) (same x.rank x)
 frame-called x t (NullPosts target) = same x.rank x
 frame-called x t (Completes name n) = same x.rank x
 frame-called x t (Awaits name) = same x.rank x
@@ -126,5 +109,5 @@ frame-taken x from (Agreeing (Up key i own mask)) e = frame-up x.rank x.setting.
 frame-taken x from (Agreeing (Down key i v)) e = rw e (frame-down x.rank x.agree from key i v e)
 frame-taken x from (Agreeing (Share key s)) e = frame-share x.rank x.agree from key s
 frame-taken x from (Agreeing (Shares key list)) e = frame-shares x.rank x.setting.contexts x.agree from key list e
-frame-taken x from (Message m) e = rw (arrives-agree x m) (same x.rank x)
+frame-taken x from (Message m) e = rw (arrives_agree x m) (same x.rank x)
 frame-taken x from (Marker c) e = same x.rank x

@@ -13,7 +13,7 @@ use Rattle.projection_law.proofs.SoundRuns.{Follows, follows-moved, runs_follow}
 use Rattle.wayout_law.specs.Facts.{IsWithinBound, IsAtRest}
 use Rattle.wayout_law.proofs.Stands.{Stands}
 use Rattle.wayout_law.proofs.WayOut.{StandAlong, drain-is-short}
-use Rattle.wayout_law.proofs.Quiet.{quiet-empty, quiet-nobody, quiet-waits, quiet-owner, quiet-called}
+use Rattle.wayout_law.proofs.Quiet.{quiet-empty, quiet-nobody, quiet-waits, quiet-owner, quiet-called, quiet-shared}
 use Rattle.wayout_law.proofs.RunStands.{run-stands, run-waited}
 
 stand-along : (s : Setting) (scripts : AllScripts) (w : World) (events : List Event) (es : List Entry) → SetsAreOfRanks s → Follows s w events → NamesAreKnownFrom w es → IsDrained scripts w es → StandAlong s.contexts w es
@@ -37,6 +37,7 @@ rests top scripts w h quiet = record {
   waiting = quiet-waits top w scripts h quiet;
   owner = quiet-owner top w scripts h quiet;
   called = quiet-called top w scripts h quiet;
+  shared = quiet-shared top w scripts h quiet;
 }
 
 pub quiet_worlds_are_at_rest : (s : Setting) (scripts : AllScripts) (journal : List Entry) → SetsAreOfRanks s → CallersNamesAreKnown s journal → IsProtocolRun s journal → IsQuiet (end_of s journal) scripts → IsAtRest (end_of s journal)

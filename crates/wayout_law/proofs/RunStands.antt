@@ -54,6 +54,7 @@ module _ (s : Setting) (w : World) (es : List Event) (h : Follows s w es) where
     agreed = run s.contexts es (agreement.opening s.ranks s.contexts);
     is_agreed = is_agreed;
     kept = (ruled s es).holds.kept;
+    exchanges = (ruled s es).exchanges;
     number = h.projected.numbers;
     threads = λ r lt. (h.sound r lt).long;
     rows = row_each;

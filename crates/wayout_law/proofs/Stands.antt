@@ -23,6 +23,7 @@ use Rattle.agree_law.proofs.TreeFacts.{member_place}
 use Rattle.agree_law.proofs.Subtrees.{below_at, under_first}
 use Rattle.agree_law.proofs.WorldFacts.{first_whole}
 use Rattle.agree_law.proofs.Links.{of_links}
+use Rattle.share_law.proofs.Exchanges.{Exchanges}
 use Rattle.mpi_protocol.specs.Packets.{Packet, Agreeing, Message, Marker}
 use Rattle.mpi_protocol.specs.Rank.{Rank}
 use Rattle.mpi_protocol.specs.Delivers.{takes_packet}
@@ -38,13 +39,14 @@ use Rattle.wayout_law.proofs.Clear.{kept-clear, kept-owner, kept-plain}
 use Rattle.wayout_law.proofs.Deliveries.{is_agreeing}
 use Rattle.wayout_law.proofs.Agreements.{agreement-part, agreement-many, agreement-head, agreement-empty, NoPackets}
 
--- the agreement of the world keeps what every step of it keeps; each rank has its number, its threads and one row for each key; a
+-- the agreement of the world keeps what every step of it keeps, of keys and of exchanges; each rank has its number, its threads and one row for each key; a
 -- communicator has fewer other members than there are ranks; and shares that are all there are taken, as is each packet of the
 -- agreement
 pub record Stands (top : ℕ) (w : World) : Type 0 where
   pub agreed : agreement.World
   pub is_agreed : IsAgreementOf w agreed
   pub kept : Kept top agreed
+  pub exchanges : Exchanges agreed
   pub number : (r : ℕ) → r < length w.ranks → (rank_at w r).rank ≡ r
   pub threads : (r : ℕ) → r < length w.ranks → length (rank_at w r).threads ≡ THREADS
   pub rows : (r : ℕ) → OneEach (rank_at w r).agree.opened

@@ -25,7 +25,8 @@ use Rattle.wayout_law.proofs.Stands.{Stands, Nobody, stands-nobody}
 use Rattle.wayout_law.proofs.Afters.{many-after}
 use Rattle.wayout_law.proofs.Early.{NoMore, cost-fewer, early-start}
 use Rattle.wayout_law.proofs.EarlySteps.{Ahead, Goes, early-deliver, early-answer}
-use Rattle.wayout_law.proofs.EarlySettle.{early-settle, early-offer, offer_choice, offer_may, due_waits, offered_at}
+use Rattle.wayout_law.proofs.Decisions.{due_waits}
+use Rattle.wayout_law.proofs.EarlySettle.{early-settle, early-offer, offer_choice, offer_may, offered_at}
 use Rattle.wayout_law.proofs.Late.{Late, nobody-after}
 use Rattle.wayout_law.proofs.LateSteps.{GoesLate, late_few, late-deliver, late-answer}
 use Rattle.wayout_law.proofs.LateSettle.{late-settle}

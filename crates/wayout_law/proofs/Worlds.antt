@@ -8,6 +8,7 @@ use Rattle.mpi_protocol.specs.Packets.{Packet, Sent}
 use Rattle.mpi_protocol.specs.Rank.{Rank}
 use Rattle.mpi_protocol.specs.Moves.{Move}
 use Rattle.mpi_protocol.specs.World.{World, blank, rank_at, link, place_of_link, links_with, head_for, taken_off, put_on, after}
+use Rattle.projection_law.proofs.Frames.{ranks_moved}
 use Rattle.wayout_law.specs.Potential.{sum_of, sum_at, More, packet_cost, sent_cost, rank_cost, links_cost, cost}
 use Rattle.wayout_law.proofs.Sums.{sum_of-append, sum_at-put}
 
@@ -26,10 +27,6 @@ links-take (l ∷ ls) zero p e = go l e
 links-take (l ∷ ls) (suc k) p e = let ih = links-take ls k p e in omega (arith, ih)
 
 -- packets put on links
-pub put_on-ranks : (w : World) (r : ℕ) (ss : List Sent) → (put_on w r ss).ranks ≡ w.ranks
-put_on-ranks w r [] = refl
-put_on-ranks w r (s ∷ ss) = put_on-ranks (record w { links = links_with w r s }) r ss
-
 put_on-links : (w : World) (r : ℕ) (ss : List Sent) → links_cost (put_on w r ss).links ≤ links_cost w.links + sum_of sent_cost ss
 put_on-links w r [] = omega arith
 put_on-links w r (s ∷ ss) =
@@ -74,7 +71,7 @@ pub after-spends : (n : ℕ) (more : More) (scripts : AllScripts) (w : World) (c
     → Spends n more scripts c.rank (rank_at w c.rank) (head_for w c.rank c.act) m → cost n more scripts (after w c m) < cost n more scripts w
 after-spends n more scripts w c m lt h =
     let v : World = record (taken_off w c.rank c.act) { ranks = set w.ranks c.rank m.state } in
-    let same = put_on-ranks v c.rank m.sent in
+    let same = ranks_moved w c.rank c.act m in
     rw same
     (total (sum_at (rank_cost n more scripts) 0 (set w.ranks c.rank m.state)) (sum_at (rank_cost n more scripts) 0 w.ranks)
     (rank_cost n more scripts c.rank (rank_at w c.rank)) (rank_cost n more scripts c.rank m.state)

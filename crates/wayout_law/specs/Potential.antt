@@ -1,5 +1,15 @@
 -- How many steps the drain may still take: each operation, creation, communicator and packet is charged for what it may still
--- ask for. The weights are this project's own.
+-- ask for. The weights are this project's own. With n ranks, and `more key i` for the rounds of the key that may come after round i:
+--
+--   operation not called                                n + 13
+--   thread that waits                                   1
+--   creation: Sharing                                   n + 10
+--   creation: Called, or Offered in round i             n + 2 + 3 * more key i  (Called: i = 0), and 1 for an `Up` not sent yet
+--   creation: Waiting for its offer of round i          n + 4 + 3 * more key i
+--   creation: Done                                      0
+--   communicator not left, left                         n + 1, 1
+--   `Up`, `Share`, message, marker on a link            1
+--   `Down`, `Shares` on a link                          0
 use Rattle.std.specs.Prelude.{ℕ, zero, suc, ◌+◌, ◌*◌, ◌==◌, if◌then◌else◌, List, [], ◌∷◌, length, nat_lt}
 use Rattle.mpi_base.specs.declared.keys.Key.{Key}
 use Rattle.mpi_base.specs.declared.ops.Op.{Op}

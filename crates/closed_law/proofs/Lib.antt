@@ -1,0 +1,13 @@
+pub mod Lists
+pub mod Rests
+pub mod Matches
+pub mod Backs
+pub mod ThreadGoes
+pub mod Asked
+pub mod AskedRuns
+pub mod Keys
+pub mod Creations
+pub mod Threads
+pub mod Ended
+pub mod Closes
+pub mod Laws
