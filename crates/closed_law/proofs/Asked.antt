@@ -1,15 +1,14 @@
 -- The topic of those that have called a creation, of the registry alone: who has called one, and is not told yet, waits for it.
 -- A rank without a colour is told once all have called, any other once its class is picked. A class is picked for all its
 -- members, and no split is picked before all have called it.
-use Rattle.std.proofs.Common.{◌≡◌, ◌≢◌, ◌⊎◌, ◌<◌, ◌≤◌, ◌==◌, ◌&&◌, ◌||◌, ℕ, zero, suc, Bool, true, false, if◌then◌else◌, List, [], ◌∷◌, ◌++◌, length, get_or, set, replicate, Option, Some, None, refl, sym, ap, ◌∙◌, subst, inl, inr, arith}
+use Rattle.std.proofs.Common.{◌≡◌, ◌<◌, ℕ, Bool, true, false, if◌then◌else◌, List, [], ◌∷◌, ◌++◌, length, Option, Some, None, refl, sym, ap, ◌∙◌, subst, arith}
 use Rattle.std.specs.Option.{is_some}
-use Rattle.std.specs.List.{list_any, list_all}
 use Rattle.std.proofs.lemmas.Bool.Decides.{nat_tests}
 use Rattle.mpi_base.specs.MemberLists.{has_rank}
 use Rattle.mpi_law.specs.declared.setting.Setting.{Setting}
 use Rattle.mpi_law.specs.declared.setting.TheConstants.{THREADS}
 use Rattle.mpi_law.specs.Registry.State.{Registry, Caller, Creation, Outcome, Pick, Creating, ThreadPart, creation_at, thread_of, part_of}
-use Rattle.mpi_law.specs.Registry.Creations.{is_split, is_nil, caller_of, has_called, all_called, share_of, is_uncoloured, class_of, outcome_for, with_caller, with_pick}
+use Rattle.mpi_law.specs.Registry.Creations.{is_split, is_nil, caller_of, has_called, all_called, is_uncoloured, class_of, outcome_for, with_caller, with_pick}
 use Rattle.run_law.proofs.Creations.{creation_in}
 use Rattle.run_law.proofs.Rows.{or_else}
 use Rattle.run_law.proofs.JoinRows.{any-snoc, caller-old}

@@ -1,5 +1,5 @@
 -- Each event of the registry keeps the topic of those that have called, so it holds at the end of every run.
-use Rattle.std.proofs.Common.{◌≡◌, ◌≢◌, ◌⊎◌, ◌<◌, ◌≤◌, ◌==◌, ◌&&◌, ◌+◌, ℕ, ℤ, pos, negsuc, zero, suc, Bool, true, false, not, if◌then◌else◌, List, [], ◌∷◌, ◌++◌, length, get_or, set, replicate, filter, Option, Some, None, option_map, refl, sym, ap, ◌∙◌, subst, inl, inr, arith, length-set}
+use Rattle.std.proofs.Common.{◌≡◌, ◌≢◌, ◌⊎◌, ◌<◌, ◌≤◌, ◌==◌, ℕ, ℤ, pos, negsuc, zero, suc, Bool, true, false, not, if◌then◌else◌, List, [], ◌∷◌, ◌++◌, length, get_or, set, replicate, filter, Option, Some, None, option_map, refl, sym, ap, ◌∙◌, subst, inl, inr, arith, length-set}
 use Rattle.std.specs.Option.{is_some}
 use Rattle.std.specs.Ordering.{int_eq}
 use Rattle.std.specs.List.{list_any}
@@ -19,7 +19,7 @@ use Rattle.mpi_law.specs.Local.Objects.{Local}
 use Rattle.mpi_law.specs.Local.Effects.{local_after}
 use Rattle.mpi_law.specs.Registry.State as reg
 use Rattle.mpi_law.specs.Registry.State.{Registry, RankPart, Caller, Creation, CreationName, Outcome, Made, NoneFree, Message, Receive, Wait, Creating, blank_part, blank_creation, part_of, thread_of, creation_at, is_idle_wait, registry_opening}
-use Rattle.mpi_law.specs.Registry.Creations.{is_split, is_nil, is_picked, class_by, class_of, share_of, caller_of, is_uncoloured, has_called, all_called, name_of, group_of, share_in, join, is_joinable, place_where, outcome_for, with_pick, with_answer}
+use Rattle.mpi_law.specs.Registry.Creations.{is_split, is_nil, is_picked, class_by, class_of, share_of, caller_of, is_uncoloured, all_called, name_of, group_of, share_in, join, is_joinable, place_where, outcome_for, with_pick, with_answer}
 use Rattle.mpi_law.specs.Registry.Calls.{effect_at, carried_out, to_send, to_post}
 use Rattle.mpi_law.specs.Registry.Replies.{owed_to, owed_creation, outcome_reply, answers, idles}
 use Rattle.mpi_law.specs.Registry.Contexts.{comm_of, key_place}
@@ -30,7 +30,7 @@ use Rattle.run_law.proofs.Creations.{creation_in}
 use Rattle.run_law.proofs.Classes.{by_key_has}
 use Rattle.run_law.proofs.JoinRows.{Joining, JoinedRow, joined_old, opened_new, joining, caller-new}
 use Rattle.run_law.proofs.PickedRows.{row_set}
-use Rattle.closed_law.proofs.ThreadGoes.{ThreadGoes, goes_same, goes_on, goes_set, goes_thread, here_set}
+use Rattle.closed_law.proofs.ThreadGoes.{ThreadGoes, goes_on, goes_set, goes_thread, here_set}
 use Rattle.closed_law.proofs.Asked.{is_told, PicksFit, Waits, Asked, waits_still, asked_thread, fits_answered, fits_nil, fits_picked, waits_picked, untold_joined, waits_joined}
 
 -- Classes: the members of one have one class

@@ -1,7 +1,7 @@
 -- No communicator may be given back: where all members have freed one, no creation under it is open and no receive of a member
 -- waits on it, each member has left it or given it back; the markers of the others have come, and no key owns the mask.
-use Rattle.std.proofs.Common.{◌≡◌, ◌≢◌, ◌<◌, ◌+◌, ◌==◌, ◌&&◌, ◌||◌, not, ℕ, Bool, true, false, if◌then◌else◌, List, [], ◌∷◌, map, filter, length, Option, Some, None, refl, sym, ap, ◌∙◌, subst, arith}
-use Rattle.std.specs.Prelude.{is_none, nat_lt}
+use Rattle.std.proofs.Common.{◌≡◌, ◌<◌, ◌+◌, ◌==◌, ◌&&◌, ◌||◌, not, ℕ, Bool, true, false, if◌then◌else◌, List, [], ◌∷◌, map, filter, length, Option, Some, None, refl, sym, ap, ◌∙◌, subst, arith}
+use Rattle.std.specs.Prelude.{is_none}
 use Rattle.std.specs.Option.{is_some}
 use Rattle.std.specs.List.{list_any, list_all}
 use Rattle.std.proofs.lemmas.Bool.Decides.{nat_tests}
@@ -36,7 +36,7 @@ use Rattle.run_law.proofs.Comms.{CommFits, is_live}
 use Rattle.run_law.proofs.Classes.{each_member}
 use Rattle.run_law.proofs.LeftHere.{under_open}
 use Rattle.message_law.proofs.Topics.{as_posted, is_waiting_at, is_marker, is_note, is_left_row, has_left, OnLive, WaitingFits}
-use Rattle.message_law.proofs.Worlds.{comms_of, posted_of}
+use Rattle.message_law.proofs.Worlds.{comms_of}
 use Rattle.closed_law.proofs.Lists.{member_at}
 use Rattle.closed_law.proofs.Rests.{Rests, stands, is_rank, none_may}
 

@@ -1,5 +1,5 @@
 -- The registry of a quiet world is closed.
-use Rattle.std.proofs.Common.{◌≡◌, ◌<◌, ◌+◌, ℕ, Bool, true, List, length, refl, arith}
+use Rattle.std.proofs.Common.{◌≡◌, true, List, length, refl, arith}
 use Rattle.std.specs.List.{list_all, range_with_len}
 use Rattle.mpi_law.specs.declared.setting.Setting.{Setting}
 use Rattle.mpi_law.specs.declared.setting.TheConstants.{THREADS}

@@ -1,8 +1,8 @@
 -- No creation may be decided: a member that is not served waits, its key is called and no more, and so is that of each member of
 -- its class; but a key that all its members have called is decided. That no exchange is held up is asked for here.
-use Rattle.std.proofs.Common.{◌≡◌, ◌<◌, ◌==◌, ◌&&◌, ◌||◌, not, ℕ, ℤ, zero, suc, Bool, true, false, if◌then◌else◌, List, [], ◌∷◌, length, get_or, replicate, nat_lt, Option, Some, None, refl, sym, ap, ◌∙◌, subst, arith}
-use Rattle.std.specs.Option.{is_some, is_none}
-use Rattle.std.specs.List.{list_all, list_any}
+use Rattle.std.proofs.Common.{◌≡◌, ◌<◌, ◌&&◌, ◌||◌, not, ℕ, ℤ, zero, suc, Bool, true, false, if◌then◌else◌, List, length, get_or, replicate, nat_lt, Option, Some, None, refl, sym, ap, ◌∙◌, subst, arith}
+use Rattle.std.specs.Option.{is_none}
+use Rattle.std.specs.List.{list_all}
 use Rattle.std.proofs.lemmas.Bool.Decides.{nat_tests}
 use Rattle.mpi_base.specs.MemberLists.{has_rank}
 use Rattle.mpi_base.specs.declared.keys.Key.{Key}
@@ -11,35 +11,33 @@ use Rattle.mpi_base.specs.declared.keys.Kind.TheVariants as kind
 use Rattle.mpi_law.specs.declared.setting.Setting.{Setting}
 use Rattle.mpi_law.specs.declared.setting.TheConstants.{THREADS}
 use Rattle.mpi_law.specs.ScriptLists.{AllScripts}
-use Rattle.mpi_law.specs.Splits.{split_class}
 use Rattle.mpi_law.specs.Registry.State as reg
 use Rattle.mpi_law.specs.Registry.State.{Registry, Creation, Outcome, Wait, Creating, blank_part, blank_creation, part_of, thread_of, creation_at}
-use Rattle.mpi_law.specs.Registry.Creations.{is_split, is_nil, class_by, class_of, share_of, caller_of, has_called, all_called, is_uncoloured, outcome_for}
-use Rattle.mpi_law.specs.Registry.Contexts.{stands_for, is_exchange}
+use Rattle.mpi_law.specs.Registry.Creations.{is_split, class_by, class_of, share_of, caller_of, has_called, all_called, is_uncoloured, outcome_for}
+use Rattle.mpi_law.specs.Registry.Contexts.{is_exchange}
 use Rattle.mpi_law.specs.Closed.{is_served, is_picked_or_short}
 use Rattle.agree_law.specs.declared.rows.Stage.{Stage}
 use Rattle.agree_law.specs.declared.rows.Stage.TheVariants.{Sharing, Called, Waiting, Offered, Done}
 use Rattle.agree_law.specs.Tree.{member_at}
 use Rattle.agree_law.specs.Part.{stage_of}
-use Rattle.agree_law.specs.Facts.{is_agreed_on}
 use Rattle.agree_law.specs.Kinds.{is_share}
 use Rattle.agree_law.specs.World.{Event, is_key_of}
 use Rattle.agree_law.proofs.TreeFacts.{place_member, member_place}
 use Rattle.mpi_protocol.specs.declared.rows.Waits.{Waits}
-use Rattle.mpi_protocol.specs.declared.rows.Waits.TheVariants.{Nothing, Creation as Creates, Uncoloured, Freeing, Ending, Receiving, Awaiting}
+use Rattle.mpi_protocol.specs.declared.rows.Waits.TheVariants.{Creation as Creates, Uncoloured}
 use Rattle.mpi_protocol.specs.World.{World, rank_at}
 use Rattle.projection_law.proofs.Laws.{opens_fit_there}
 use Rattle.due_law.specs.Dues.{Dues}
 use Rattle.run_law.proofs.Lists.{get_or_past}
-use Rattle.run_law.proofs.Threads.{WaitFits, row_of, part_row}
-use Rattle.run_law.proofs.Creations.{CreationFits, MembersFit, StageFits, is_sharing, creation_in}
+use Rattle.run_law.proofs.Threads.{WaitFits, row_of}
+use Rattle.run_law.proofs.Creations.{CreationFits, MembersFit, is_sharing, creation_in}
 use Rattle.run_law.proofs.Classes.{class_within, coloured, each_member}
 use Rattle.run_law.proofs.ShareClasses.{in_class}
 use Rattle.run_law.proofs.SettleSteps.{exchange_is}
 use Rattle.run_law.proofs.Joined.{Joined}
 use Rattle.run_law.proofs.Names.{Standing, by_group, by_parent, standing, name_on, stands_at}
 use Rattle.run_law.proofs.Waiters.{thread_inside}
-use Rattle.closed_law.proofs.Lists.{all_at, member_at as member_holds}
+use Rattle.closed_law.proofs.Lists.{member_at as member_holds}
 use Rattle.closed_law.proofs.Rests.{Rests, not_answerable}
 use Rattle.closed_law.proofs.Asked.{is_told, Asked, none_picked}
 use Rattle.closed_law.proofs.AskedRuns.{same_class}
@@ -208,7 +206,7 @@ module _ (s : Setting) (scripts : AllScripts) (w : World) (es : List Event) (due
       go true e = each_member (is_served c) c.group (λ r i. served e r i (outcome_for c r) refl (is_uncoloured c r) refl)
 
 -- for a creation that is no split no rank shares
-none_splits : (s : Setting) (w : World) (due : Dues) (g : Registry) (n : ℕ) → Joined s w.ranks due g → is_split (creation_at g n).name ≡ false → NoneShares w g n
+pub none_splits : (s : Setting) (w : World) (due : Dues) (g : Registry) (n : ℕ) → Joined s w.ranks due g → is_split (creation_at g n).name ≡ false → NoneShares w g n
 none_splits s w due g n j plain r t key target session lr ea eb k all = go key.kind k (standing g.comms r key (creation_at g n).name (j.creations.each r t key target session n ea eb).stands) refl
   where
     go : (a : Kind) → is_exchange a ≡ true → Standing g.comms r key (creation_at g n).name → key.kind ≡ a → ⊥

@@ -1,9 +1,8 @@
 -- What closed means: no pick, match, give-back and reply, and no call but beyond the scripts.
-use Rattle.std.proofs.Common.{◌≡◌, ◌<◌, ◌==◌, ◌&&◌, ◌||◌, not, ℕ, zero, suc, Bool, true, false, List, [], ◌∷◌, length, get_or, if◌then◌else◌, Option, Some, None, refl, sym, ap, ◌∙◌, subst, arith}
+use Rattle.std.proofs.Common.{◌≡◌, ◌<◌, ◌&&◌, not, ℕ, zero, suc, Bool, true, false, List, [], ◌∷◌, length, get_or, if◌then◌else◌, Option, Some, None, refl, subst, arith}
 use Rattle.std.specs.Prelude.{find}
-use Rattle.std.specs.Option.{is_some, is_none}
+use Rattle.std.specs.Option.{is_none}
 use Rattle.std.specs.List.{list_any, list_all, range_with_len}
-use Rattle.std.proofs.lemmas.Bool.Decides.{nat_tests}
 use Rattle.mpi_base.specs.MemberLists.{has_rank}
 use Rattle.mpi_base.specs.declared.keys.Key.{Key}
 use Rattle.mpi_base.specs.declared.ops.Op.{Op}
@@ -11,14 +10,12 @@ use Rattle.mpi_base.specs.declared.replies.Reply.{Reply}
 use Rattle.mpi_law.specs.declared.setting.Setting.{Setting}
 use Rattle.mpi_law.specs.declared.setting.TheConstants.{THREADS}
 use Rattle.mpi_law.specs.ScriptLists.{AllScripts, next_op}
-use Rattle.mpi_law.specs.Registry.State.{Registry, Creation, Message, Receive, blank_creation, comm_at, creation_at, thread_of, is_idle_wait}
-use Rattle.mpi_law.specs.Registry.Creations.{all_called, class_of, outcome_for, is_uncoloured, has_open_under}
-use Rattle.mpi_law.specs.Registry.Contexts.{comm_of, key_place, is_live_at}
-use Rattle.mpi_law.specs.Registry.Messages.{may_match, receive_of, message_of, is_receive, is_message, has_waiting}
-use Rattle.mpi_law.specs.Registry.Calls.{to_send, to_post}
+use Rattle.mpi_law.specs.Registry.State.{Registry, blank_creation, comm_at, creation_at, thread_of}
+use Rattle.mpi_law.specs.Registry.Contexts.{key_place}
+use Rattle.mpi_law.specs.Registry.Messages.{may_match, is_receive, is_message}
 use Rattle.mpi_law.specs.Registry.Replies.{owed}
 use Rattle.mpi_law.specs.Registry.Events.{Calls, Picks, Matches, Backs, Replies}
-use Rattle.mpi_law.specs.Registry.Runs.{MayPick, MayMatch, MayBack, Allowed}
+use Rattle.mpi_law.specs.Registry.Runs.{MayPick, Allowed}
 use Rattle.mpi_law.specs.Closed.{is_served, is_picked_or_short, is_matched_out, is_back_or_held, is_settled, is_at_rest, is_closed}
 use Rattle.run_law.proofs.Lists.{all_range_at}
 use Rattle.run_law.proofs.Contexts.{comm_of_is, live_member}

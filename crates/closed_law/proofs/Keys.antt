@@ -1,10 +1,10 @@
 -- Two keys of one rank that stand for one creation, and are both of exchanges or both not, are one.
-use Rattle.std.proofs.Common.{◌≡◌, ℕ, Bool, true, false, List, [], Some, None, refl, sym, ap, ◌∙◌}
+use Rattle.std.proofs.Common.{◌≡◌, ℕ, true, List, [], Some, refl, sym, ap, ◌∙◌}
 use Rattle.mpi_base.specs.declared.keys.Kind.{Kind}
 use Rattle.mpi_base.specs.declared.keys.Kind.TheVariants as kind
 use Rattle.mpi_base.specs.declared.keys.Key.{Key}
-use Rattle.mpi_law.specs.Registry.State.{Communicator, CreationName, Group_and_tag, Nth_dup, Nth_split, Group_on, blank_comm}
-use Rattle.mpi_law.specs.Registry.Contexts.{comm_of, stands_for, is_exchange}
+use Rattle.mpi_law.specs.Registry.State.{Communicator, CreationName, Group_and_tag, Nth_dup, Nth_split, Group_on}
+use Rattle.mpi_law.specs.Registry.Contexts.{stands_for, is_exchange}
 use Rattle.run_law.proofs.Contexts.{comm_of_is}
 use Rattle.run_law.proofs.Creations.{comm_in}
 use Rattle.run_law.proofs.Names.{Standing, by_group, by_parent, standing, name_on, has_parent}

@@ -11,3 +11,8 @@ pub mod Threads
 pub mod Ended
 pub mod Closes
 pub mod Laws
+pub mod Rows
+pub mod RowRuns
+pub mod Requests
+pub mod Receives
+pub mod ReceiveRuns

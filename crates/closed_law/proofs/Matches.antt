@@ -7,15 +7,13 @@ use Rattle.std.proofs.lemmas.List.{append-nil}
 use Rattle.mpi_base.specs.declared.messages.Msg.{Msg}
 use Rattle.mpi_law.specs.declared.setting.Setting.{Setting}
 use Rattle.mpi_law.specs.ScriptLists.{AllScripts}
-use Rattle.mpi_law.specs.Registry.State.{Registry, Message, Receive, Open, comm_at}
+use Rattle.mpi_law.specs.Registry.State.{Registry, Message, Receive, Open}
 use Rattle.mpi_law.specs.Registry.Messages.{is_unmatched, is_waiting, may_match, fits as fits_by_place}
-use Rattle.mpi_law.specs.Registry.Contexts.{is_live_at}
 use Rattle.mpi_law.specs.Closed.{is_matched_out}
 use Rattle.match_law.specs.declared.rows.Posted.{Posted}
 use Rattle.match_law.specs.Box.{fits}
 use Rattle.agree_law.specs.World.{Event}
 use Rattle.agree_law.proofs.Lists.{AllOf, AllOf_filter}
-use Rattle.mpi_protocol.specs.Packets.{Packet}
 use Rattle.mpi_protocol.specs.World.{World, link}
 use Rattle.due_law.specs.Dues.{Dues}
 use Rattle.run_law.proofs.Lists.{none_at}

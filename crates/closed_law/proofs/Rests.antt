@@ -1,5 +1,5 @@
 -- A world where nothing but a call is left to do: what stands in it, and that none of its ranks may act.
-use Rattle.std.proofs.Common.{◌≡◌, ◌<◌, ◌==◌, ◌&&◌, ℕ, Bool, true, false, List, [], length, Option, None, refl, arith}
+use Rattle.std.proofs.Common.{◌≡◌, ◌<◌, ℕ, true, false, List, length, refl, arith}
 use Rattle.std.proofs.lemmas.Bool.Decides.{nat_tests}
 use Rattle.mpi_base.specs.MemberLists.{has_rank}
 use Rattle.mpi_base.specs.declared.entries.Act.{Act}
@@ -9,19 +9,18 @@ use Rattle.mpi_law.specs.declared.setting.TheConstants.{THREADS}
 use Rattle.mpi_law.specs.ScriptLists.{AllScripts}
 use Rattle.mpi_law.specs.Registry.State.{Registry, comm_at}
 use Rattle.agree_law.specs.World.{Event}
-use Rattle.mpi_protocol.specs.Packets.{Packet}
 use Rattle.mpi_protocol.specs.Rank.{thread_at}
 use Rattle.mpi_protocol.specs.Answers.{is_answerable}
 use Rattle.mpi_base.specs.declared.entries.Act.TheVariants.{Answer}
 use Rattle.mpi_protocol.specs.Step.{is_enabled}
-use Rattle.mpi_protocol.specs.World.{World, opening, rank_at, link, has_packet}
+use Rattle.mpi_protocol.specs.World.{World, opening, rank_at, has_packet}
 use Rattle.mpi_protocol.specs.Order.{IsQuiet, is_call}
 use Rattle.mpi_protocol.specs.Run.{IsProtocolRun, end_of}
 use Rattle.projection_law.specs.Premises.{SetsAreOfRanks}
 use Rattle.projection_law.specs.Events.{agreement_events}
 use Rattle.due_law.specs.Dues.{Dues}
 use Rattle.due_law.specs.Runs.{dues_of}
-use Rattle.message_law.proofs.Topics.{OnLive, Standing}
+use Rattle.message_law.proofs.Topics.{Standing}
 use Rattle.message_law.proofs.Worlds.{comms_of}
 use Rattle.registry_law.specs.Facts.{registry_of}
 use Rattle.registry_law.proofs.Together.{Together}

@@ -1,5 +1,5 @@
 -- One thread of one rank goes on in the registry, and all others wait for what they waited for.
-use Rattle.std.proofs.Common.{◌≡◌, ◌≢◌, ◌⊎◌, ◌<◌, ◌≤◌, ℕ, List, length, get_or, set, refl, sym, ap, ◌∙◌, inl, inr, arith, length-set}
+use Rattle.std.proofs.Common.{◌≡◌, ◌≢◌, ◌⊎◌, ◌<◌, ◌≤◌, ℕ, List, length, get_or, set, refl, ap, ◌∙◌, inl, inr, arith, length-set}
 use Rattle.mpi_law.specs.Registry.State.{Registry, RankPart, ThreadPart, blank_part, idle_thread, part_of, thread_of}
 use Rattle.run_law.proofs.Lists.{set_place}
 

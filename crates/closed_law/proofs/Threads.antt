@@ -1,7 +1,6 @@
 -- No thread may be answered, and one that waits for nothing has no next operation. What is asked for here of each rank: its rows of
 -- communicators have different contexts, and a thread that waits for a receive has its row.
-use Rattle.std.proofs.Common.{◌≡◌, ◌<◌, ◌==◌, ◌&&◌, ◌||◌, not, ℕ, Bool, true, false, if◌then◌else◌, List, [], ◌∷◌, length, get_or, Option, Some, None, option_map, refl, sym, ap, ◌∙◌, subst, arith}
-use Rattle.std.specs.Prelude.{nat_lt}
+use Rattle.std.proofs.Common.{◌≡◌, ◌<◌, ◌==◌, not, ℕ, Bool, true, false, if◌then◌else◌, List, length, Option, Some, None, option_map, refl, sym, ap, ◌∙◌, subst, arith}
 use Rattle.std.specs.Option.{is_some, is_none}
 use Rattle.std.specs.List.{list_any}
 use Rattle.std.proofs.lemmas.Bool.Decides.{nat_tests}
@@ -22,19 +21,19 @@ use Rattle.mpi_law.specs.Registry.Creations.{all_called, is_uncoloured, outcome_
 use Rattle.mpi_law.specs.Registry.Contexts.{comm_of, is_exchange}
 use Rattle.mpi_law.specs.Registry.Messages.{receive_of}
 use Rattle.mpi_law.specs.Registry.Calls.{to_send, to_post}
-use Rattle.mpi_law.specs.Registry.Replies.{owed, owed_to, owed_creation, owed_receive, outcome_reply, received, is_left_of, fine_if}
+use Rattle.mpi_law.specs.Registry.Replies.{owed_to, owed_creation, owed_receive, outcome_reply, received, is_left_of, fine_if}
 use Rattle.mpi_law.specs.Closed.{is_at_rest}
 use Rattle.agree_law.specs.declared.rows.Stage.{Stage}
 use Rattle.agree_law.specs.declared.rows.Stage.TheVariants.{Sharing, Called, Waiting, Offered, Done}
 use Rattle.agree_law.specs.Part.{stage_of}
 use Rattle.agree_law.specs.World.{Event}
-use Rattle.agree_law.proofs.Lists.{AllOf, tally, tally_any, found}
+use Rattle.agree_law.proofs.Lists.{AllOf, tally_any, found}
 use Rattle.comm_law.specs.declared.rows.CommRow.{CommRow}
-use Rattle.comm_law.specs.Comms.{has_serial, has_session}
+use Rattle.comm_law.specs.Comms.{has_session}
 use Rattle.mpi_protocol.specs.declared.rows.Waits.{Waits}
 use Rattle.mpi_protocol.specs.declared.rows.Waits.TheVariants.{Nothing, Creation as Creates, Uncoloured, Freeing, Ending, Receiving, Awaiting}
 use Rattle.mpi_protocol.specs.declared.rows.ReceiveRow.{ReceiveRow}
-use Rattle.mpi_protocol.specs.Rank.{Rank, taken_of, has_taken, receive_of as receive_row}
+use Rattle.mpi_protocol.specs.Rank.{Rank, taken_of, receive_of as receive_row}
 use Rattle.mpi_protocol.specs.Answers.{is_answerable}
 use Rattle.mpi_protocol.specs.World.{World, rank_at}
 use Rattle.due_law.specs.Dues.{Dues}

@@ -48,3 +48,9 @@ pub fn quiet_ends_decide_no_creation()
     ensures { (s : Setting) (scripts : AllScripts) (journal : List Entry) (n : ℕ) → SetsAreOfRanks s → IsProtocolRun s journal → IsQuiet (end_of s journal) scripts → n < length (registry_of s journal).creations
         → is_split (creation_at (registry_of s journal) n).name ≡ false → is_picked_or_short (creation_at (registry_of s journal) n) ≡ true }
 {}
+
+/// Where a protocol run ends quiet and nobody has called a split, the registry is closed.
+pub fn quiet_ends_without_splits_are_closed()
+    ensures { (s : Setting) (scripts : AllScripts) (journal : List Entry) → SetsAreOfRanks s → IsProtocolRun s journal → IsQuiet (end_of s journal) scripts
+        → ((n : ℕ) → n < length (registry_of s journal).creations → is_split (creation_at (registry_of s journal) n).name ≡ false) → is_closed s scripts (registry_of s journal) ≡ true }
+{}
