@@ -1,7 +1,8 @@
--- The topic of those that have called a creation, of the registry alone: who has called one, and is not told yet, waits for it.
+-- The topic of those that have called a creation, of the registry alone: who has called one, and is not told yet or has no answer, waits
+-- for it.
 -- A rank without a colour is told once all have called, any other once its class is picked. A class is picked for all its
 -- members, and no split is picked before all have called it.
-use Rattle.std.proofs.Common.{◌≡◌, ◌<◌, ℕ, Bool, true, false, if◌then◌else◌, List, [], ◌∷◌, ◌++◌, length, Option, Some, None, refl, sym, ap, ◌∙◌, subst, arith}
+use Rattle.std.proofs.Common.{◌≡◌, ◌⊎◌, ◌<◌, ℕ, Bool, true, false, if◌then◌else◌, List, [], ◌∷◌, ◌++◌, length, Option, Some, None, refl, sym, ap, ◌∙◌, subst, inl, inr, arith}
 use Rattle.std.specs.Option.{is_some}
 use Rattle.std.proofs.lemmas.Bool.Decides.{nat_tests}
 use Rattle.mpi_base.specs.MemberLists.{has_rank}
@@ -24,8 +25,12 @@ pub record PicksFit (c : Creation) : Type 0 where
   pub late : is_split c.name ≡ true → all_called c ≡ false → is_nil c.picks ≡ true
   pub classes : (q z : ℕ) → is_split c.name ≡ true → is_some (outcome_for c q) ≡ true → has_rank (class_of c q) z ≡ true → is_some (outcome_for c z) ≡ true
 
+-- it is not told, or has no answer
+abbrev pub Lacks : Creation → ℕ → Type 0
+Lacks c r = (is_told c r ≡ false) ⊎ (has_rank c.answered r ≡ false)
+
 abbrev pub Waits : Registry → ℕ → Creation → Type 0
-Waits g n c = (r : ℕ) → has_called c r ≡ true → is_told c r ≡ false → (thread_of g r (caller_of c.callers r).thread).wait ≡ Creating n
+Waits g n c = (r : ℕ) → has_called c r ≡ true → Lacks c r → (thread_of g r (caller_of c.callers r).thread).wait ≡ Creating n
 
 pub record Asked (s : Setting) (g : Registry) : Type 0 where
   pub ranks : length g.ranks ≡ s.ranks
@@ -107,7 +112,8 @@ untold_before c k q e = go (is_uncoloured c q) (outcome_for c q) (rw (outcome_fo
     go false (Some a) h = absurd (cc (h))
 
 pub waits_picked : (g : Registry) (n : ℕ) (c : Creation) (k : Pick) → Waits g n c → Waits g n (with_pick c k)
-waits_picked g n c k h q called untold = h q called (untold_before c k q untold)
+waits_picked g n c k h q called (inl untold) = h q called (inl (untold_before c k q untold))
+waits_picked g n c k h q called (inr open_yet) = h q called (inr open_yet)
 
 -- one caller more, before all have called and with nothing picked
 pub untold_joined : (c : Creation) (k : Caller) (q : ℕ) → is_nil c.picks ≡ true → (is_split c.name ≡ true → all_called c ≡ false) → is_told c q ≡ false
@@ -126,7 +132,7 @@ pub waits_joined : (g new : Registry) (r t n : ℕ) (c : Creation) (k : Caller) 
 waits_joined g new r t n c k goes free here kr kt untold mine h q called un = go (has_called c q) refl
   where
     go : (b : Bool) → has_called c q ≡ b → (thread_of new q (caller_of (c.callers ++ k ∷ []) q).thread).wait ≡ Creating n
-    go true e = rw (caller-old c.callers k q e) (waits_still g new r t n c goes free h q e (untold q e))
+    go true e = rw (caller-old c.callers k q e) (waits_still g new r t n c goes free h q e (inl (untold q e)))
     go false e =
         let a = any-snoc c.callers k q in
         let is : k.rank ≡ q = grind (arith, nat_tests, a, called, e) in

@@ -1,5 +1,5 @@
 -- Each event of the registry keeps the topic of those that have called, so it holds at the end of every run.
-use Rattle.std.proofs.Common.{◌≡◌, ◌≢◌, ◌⊎◌, ◌<◌, ◌≤◌, ◌==◌, ℕ, ℤ, pos, negsuc, zero, suc, Bool, true, false, not, if◌then◌else◌, List, [], ◌∷◌, ◌++◌, length, get_or, set, replicate, filter, Option, Some, None, option_map, refl, sym, ap, ◌∙◌, subst, inl, inr, arith, length-set}
+use Rattle.std.proofs.Common.{◌≡◌, ◌≢◌, ◌⊎◌, ◌<◌, ◌≤◌, ◌==◌, ◌||◌, ℕ, ℤ, pos, negsuc, zero, suc, Bool, true, false, not, if◌then◌else◌, List, [], ◌∷◌, ◌++◌, length, get_or, set, replicate, filter, Option, Some, None, option_map, refl, sym, ap, ◌∙◌, subst, inl, inr, arith, length-set}
 use Rattle.std.specs.Option.{is_some}
 use Rattle.std.specs.Ordering.{int_eq}
 use Rattle.std.specs.List.{list_any}
@@ -19,7 +19,7 @@ use Rattle.mpi_law.specs.Local.Objects.{Local}
 use Rattle.mpi_law.specs.Local.Effects.{local_after}
 use Rattle.mpi_law.specs.Registry.State as reg
 use Rattle.mpi_law.specs.Registry.State.{Registry, RankPart, Caller, Creation, CreationName, Outcome, Made, NoneFree, Message, Receive, Wait, Creating, blank_part, blank_creation, part_of, thread_of, creation_at, is_idle_wait, registry_opening}
-use Rattle.mpi_law.specs.Registry.Creations.{is_split, is_nil, is_picked, class_by, class_of, share_of, caller_of, is_uncoloured, all_called, name_of, group_of, share_in, join, is_joinable, place_where, outcome_for, with_pick, with_answer}
+use Rattle.mpi_law.specs.Registry.Creations.{is_split, is_nil, is_picked, class_by, class_of, share_of, caller_of, has_called, is_uncoloured, all_called, name_of, group_of, share_in, join, is_joinable, place_where, outcome_for, with_pick, with_answer}
 use Rattle.mpi_law.specs.Registry.Calls.{effect_at, carried_out, to_send, to_post}
 use Rattle.mpi_law.specs.Registry.Replies.{owed_to, owed_creation, outcome_reply, answers, idles}
 use Rattle.mpi_law.specs.Registry.Contexts.{comm_of, key_place}
@@ -31,7 +31,7 @@ use Rattle.run_law.proofs.Classes.{by_key_has}
 use Rattle.run_law.proofs.JoinRows.{Joining, JoinedRow, joined_old, opened_new, joining, caller-new}
 use Rattle.run_law.proofs.PickedRows.{row_set}
 use Rattle.closed_law.proofs.ThreadGoes.{ThreadGoes, goes_on, goes_set, goes_thread, here_set}
-use Rattle.closed_law.proofs.Asked.{is_told, PicksFit, Waits, Asked, waits_still, asked_thread, fits_answered, fits_nil, fits_picked, waits_picked, untold_joined, waits_joined}
+use Rattle.closed_law.proofs.Asked.{is_told, Lacks, PicksFit, Waits, Asked, waits_still, asked_thread, fits_answered, fits_nil, fits_picked, waits_picked, untold_joined, waits_joined}
 
 -- Classes: the members of one have one class
 
@@ -229,6 +229,10 @@ module _ (s : Setting) (g : Registry) (h : Asked s g) where
       go false a (Some x) e = refl
       go false a None e = absurd (cc (e))
 
+  has_rank-snoc : (xs : List ℕ) (r q : ℕ) → has_rank (xs ++ r ∷ []) q ≡ (has_rank xs q || (r == q))
+  has_rank-snoc [] r q = grind (arith)
+  has_rank-snoc (x ∷ xs) r q = let ih = has_rank-snoc xs r q in grind (arith, ih)
+
   module _ (r t : ℕ) where
     idle_after : (new last : Registry) (p : RankPart) → ThreadGoes g new r t → last.ranks ≡ set new.ranks r p → p.threads ≡ set (part_of new r).threads t (record { calls = (get_or (part_of new r).threads t reg.idle_thread).calls; wait = reg.Idle }) → ThreadGoes g last r t
     idle_after new last p goes e is = goes_on g new last r t goes (goes_thread new last r t p _ e is)
@@ -262,10 +266,10 @@ module _ (s : Setting) (g : Registry) (h : Asked s g) where
         each_fits m lm (inl a) = rw a.2 (fits_answered (creation_at g n) _ (h.fits n a.1))
         each_fits m lm (inr a) = rw a.1 (h.fits m lm)
 
-        -- who is not told of a creation is another thread
-        still : (m : ℕ) → m < length g.creations → Waits (idles new r t) m (creation_at g m)
-        still m lm q called untold =
-            let old = h.waits m lm q called untold in
+        -- who lacks something of a creation is another thread
+        still : (m : ℕ) → m < length g.creations → (q : ℕ) → has_called (creation_at g m) q ≡ true → Lacks (creation_at g m) q → ((q ≡ r) → m ≡ n → ⊥) → (thread_of (idles new r t) q (caller_of (creation_at g m).callers q).thread).wait ≡ Creating m
+        still m lm q called lacks apart =
+            let old = h.waits m lm q called lacks in
             ap (λ (z : reg.ThreadPart). z.wait) (goes.others q (caller_of (creation_at g m).callers q).thread (λ a b. clash a b old)) ∙ old
           where
             clash : q ≡ r → (caller_of (creation_at g m).callers q).thread ≡ t → (thread_of g q (caller_of (creation_at g m).callers q).thread).wait ≡ Creating m → ⊥
@@ -273,12 +277,16 @@ module _ (s : Setting) (g : Registry) (h : Asked s g) where
                 let here = subst (λ (i : ℕ). (thread_of g r i).wait ≡ Creating m) b (subst (λ (i : ℕ). (thread_of g i (caller_of (creation_at g m).callers q).thread).wait ≡ Creating m) a old) in
                 let both : Creating m ≡ Creating n = sym here ∙ waits in
                 let is : m ≡ n = cc (both) in
-                let mine : is_told (creation_at g n) r ≡ false = subst (λ (i : ℕ). is_told (creation_at g i) r ≡ false) is (subst (λ (i : ℕ). is_told (creation_at g m) i ≡ false) a untold) in
-                cc (mine, told)
+                apart a is
+
+        -- of the one that is answered, who lacks something is not the rank that is
+        lacks_noted : (q : ℕ) → Lacks noted q → Lacks (creation_at g n) q × ((q ≡ r) → ⊥)
+        lacks_noted q (inl untold) = (inl untold, λ a. (let mine : is_told (creation_at g n) r ≡ false = subst (λ (i : ℕ). is_told (creation_at g n) i ≡ false) a untold in cc (mine, told)))
+        lacks_noted q (inr open_yet) = let z = has_rank-snoc (creation_at g n).answered r q in (inr (grind (arith, z, open_yet)), λ a. grind (arith, nat_tests, z, open_yet, a))
 
         each_waits : (m : ℕ) → m < length g.creations → ((m ≡ n) × (n < length g.creations) × (creation_in (set g.creations n noted) m ≡ noted)) ⊎ (((m ≢ n) ⊎ (length g.creations ≤ n)) × (creation_in (set g.creations n noted) m ≡ creation_in g.creations m)) → Waits (idles new r t) m (creation_in (set g.creations n noted) m)
-        each_waits m lm (inl a) = rw (a.2, a.0) (λ q called untold. still n a.1 q called untold)
-        each_waits m lm (inr a) = rw a.1 (still m lm)
+        each_waits m lm (inl a) = rw (a.2, a.0) (λ q called lacks. (let l = lacks_noted q lacks in still n a.1 q called l.0 (λ e f. l.1 e)))
+        each_waits m lm (inr a) = rw a.1 (λ q called lacks. still m lm q called lacks (λ e f. (let far = a.0 in grind (arith, far, f, lm))))
 
     replied : (said : Reply) (b : Wait) → (thread_of g r t).wait ≡ b → owed_to g r b ≡ Some said → Asked s (idles (answers g r b) r t)
     replied said (Creating n) e o = answered n e (owed_told r n said o)
@@ -304,7 +312,7 @@ module _ (s : Setting) (g : Registry) (h : Asked s g) where
   asked_next (Backs r c dropped) a = given_back r (comm_of g.comms r c)
   asked_next (Replies r t said) a = replied r t said (thread_of g r t).wait refl a
 
-asked_run : (s : Setting) (g : Registry) (es : List Event) → IsRegistryRun s g es → Asked s g → Asked s (registry_after s g es)
+pub asked_run : (s : Setting) (g : Registry) (es : List Event) → IsRegistryRun s g es → Asked s g → Asked s (registry_after s g es)
 asked_run s g [] run h = h
 asked_run s g (e ∷ es) run h = asked_run s (registry_next s g e) es run.1 (asked_next s g h e run.0)
 
@@ -313,11 +321,14 @@ opened_threads zero r = refl
 opened_threads (suc n) zero = refl
 opened_threads (suc n) (suc r) = opened_threads n r
 
--- at the end of every run of the registry
-pub asked_at_end : (s : Setting) (es : List Event) → IsRegistryRun s (registry_opening s) es → Asked s (registry_after s (registry_opening s) es)
-asked_at_end s es run = asked_run s (registry_opening s) es run (record {
+pub asked_at_opening : (s : Setting) → Asked s (registry_opening s)
+asked_at_opening s = record {
   ranks = length-replicate s.ranks blank_part;
   threads = opened_threads s.ranks;
   fits = λ n lt. absurd (omega (arith, lt));
   waits = λ n lt. absurd (omega (arith, lt));
-})
+}
+
+-- at the end of every run of the registry
+pub asked_at_end : (s : Setting) (es : List Event) → IsRegistryRun s (registry_opening s) es → Asked s (registry_after s (registry_opening s) es)
+asked_at_end s es run = asked_run s (registry_opening s) es run (asked_at_opening s)

@@ -1,13 +1,11 @@
 -- No creation may be decided: a member that is not served waits, its key is called and no more, and so is that of each member of
 -- its class; but a key that all its members have called is decided. That no exchange is held up is asked for here.
-use Rattle.std.proofs.Common.{◌≡◌, ◌<◌, ◌&&◌, ◌||◌, not, ℕ, ℤ, zero, suc, Bool, true, false, if◌then◌else◌, List, length, get_or, replicate, nat_lt, Option, Some, None, refl, sym, ap, ◌∙◌, subst, arith}
+use Rattle.std.proofs.Common.{◌≡◌, ◌<◌, ◌&&◌, ◌||◌, not, ℕ, ℤ, zero, suc, Bool, true, false, if◌then◌else◌, List, length, get_or, replicate, nat_lt, Option, Some, None, refl, sym, ap, ◌∙◌, subst, inl, arith}
 use Rattle.std.specs.Option.{is_none}
 use Rattle.std.specs.List.{list_all}
 use Rattle.std.proofs.lemmas.Bool.Decides.{nat_tests}
 use Rattle.mpi_base.specs.MemberLists.{has_rank}
 use Rattle.mpi_base.specs.declared.keys.Key.{Key}
-use Rattle.mpi_base.specs.declared.keys.Kind.{Kind}
-use Rattle.mpi_base.specs.declared.keys.Kind.TheVariants as kind
 use Rattle.mpi_law.specs.declared.setting.Setting.{Setting}
 use Rattle.mpi_law.specs.declared.setting.TheConstants.{THREADS}
 use Rattle.mpi_law.specs.ScriptLists.{AllScripts}
@@ -34,8 +32,7 @@ use Rattle.run_law.proofs.Creations.{CreationFits, MembersFit, is_sharing, creat
 use Rattle.run_law.proofs.Classes.{class_within, coloured, each_member}
 use Rattle.run_law.proofs.ShareClasses.{in_class}
 use Rattle.run_law.proofs.SettleSteps.{exchange_is}
-use Rattle.run_law.proofs.Joined.{Joined}
-use Rattle.run_law.proofs.Names.{Standing, by_group, by_parent, standing, name_on, stands_at}
+use Rattle.run_law.proofs.Names.{stands_at}
 use Rattle.run_law.proofs.Waiters.{thread_inside}
 use Rattle.closed_law.proofs.Lists.{member_at as member_holds}
 use Rattle.closed_law.proofs.Rests.{Rests, not_answerable}
@@ -53,7 +50,7 @@ unfolding is_key_of
 key_below m key e = grind (arith, e)
 
 -- where there is no rank, no thread waits
-blank_waits : (t n : ℕ) → (get_or (replicate THREADS reg.idle_thread) t reg.idle_thread).wait ≡ Creating n → ⊥
+pub blank_waits : (t n : ℕ) → (get_or (replicate THREADS reg.idle_thread) t reg.idle_thread).wait ≡ Creating n → ⊥
 blank_waits t n e = go THREADS t e
   where
     go : (k t : ℕ) → (get_or (replicate k reg.idle_thread) t reg.idle_thread).wait ≡ Creating n → ⊥
@@ -155,7 +152,7 @@ module _ (s : Setting) (scripts : AllScripts) (w : World) (es : List Event) (due
         let called = member_holds (has_called c) c.group q all (class_within c r q i) in
         let has_colour = coloured c q (class_of c r) (one_class q i) i in
         let untold : is_told c q ≡ false = rw (has_colour, nobody_served q i) refl in
-        is_called q (caller_of c.callers q).thread lq all (asked.waits n ln q called untold)
+        is_called q (caller_of c.callers q).thread lq all (asked.waits n ln q called (inl untold))
 
     same_keys : (k : IsCalled r) (q : ℕ) (i : has_rank (class_of c r) q ≡ true) (m : IsCalled q) → m.key ≡ k.key
     same_keys k q i m =
@@ -180,7 +177,7 @@ module _ (s : Setting) (scripts : AllScripts) (w : World) (es : List Event) (due
   caller_rank r ln all i untold = go (nat_lt r (length w.ranks)) refl
     where
       waits : (thread_of g r (caller_of (creation_at g n).callers r).thread).wait ≡ Creating n
-      waits = asked.waits n ln r (member_holds (has_called (creation_at g n)) (creation_at g n).group r all i) untold
+      waits = asked.waits n ln r (member_holds (has_called (creation_at g n)) (creation_at g n).group r all i) (inl untold)
 
       go : (b : Bool) → nat_lt r (length w.ranks) ≡ b → r < length w.ranks
       go true e = grind (arith, nat_tests, e)
@@ -204,18 +201,3 @@ module _ (s : Setting) (scripts : AllScripts) (w : World) (es : List Event) (due
       go : (b : Bool) → all_called c ≡ b → (not b || list_all (is_served c) c.group) ≡ true
       go false e = refl
       go true e = each_member (is_served c) c.group (λ r i. served e r i (outcome_for c r) refl (is_uncoloured c r) refl)
-
--- for a creation that is no split no rank shares
-pub none_splits : (s : Setting) (w : World) (due : Dues) (g : Registry) (n : ℕ) → Joined s w.ranks due g → is_split (creation_at g n).name ≡ false → NoneShares w g n
-none_splits s w due g n j plain r t key target session lr ea eb k all = go key.kind k (standing g.comms r key (creation_at g n).name (j.creations.each r t key target session n ea eb).stands) refl
-  where
-    go : (a : Kind) → is_exchange a ≡ true → Standing g.comms r key (creation_at g n).name → key.kind ≡ a → ⊥
-    go kind.From e f q = cc (e)
-    go kind.Group e f q = cc (e)
-    go kind.Dup e f q = cc (e)
-    go kind.Split e f q = cc (e)
-    go kind.Share e (by_group a p m i) q = (let z : kind.Share ≡ kind.From = sym q ∙ a in cc (z))
-    go kind.Share e (by_parent p u m c i) q = (let z : is_split (name_on key kind.Share p) ≡ false = rw (i, q) at plain in cc (z))
-
-pub plain_decided : (s : Setting) (scripts : AllScripts) (w : World) (es : List Event) (due : Dues) (g : Registry) → Rests s scripts w es due g → Asked s g → (n : ℕ) → n < length g.creations → is_split (creation_at g n).name ≡ false → is_picked_or_short (creation_at g n) ≡ true
-plain_decided s scripts w es due g h asked n ln plain = decided s scripts w es due g h asked n (none_splits s w due g n h.together.joined plain) ln

@@ -1,12 +1,9 @@
 -- What holds of the registry at a quiet end of a protocol run.
-use Rattle.std.proofs.Common.{◌≡◌, ◌<◌, ℕ, Bool, true, false, List, length, refl, arith}
-use Rattle.std.specs.Prelude.{nat_lt}
-use Rattle.std.proofs.lemmas.Bool.Decides.{nat_tests}
+use Rattle.std.proofs.Common.{◌≡◌, ◌<◌, ℕ, true, List, length}
 use Rattle.mpi_base.specs.declared.entries.Entry.{Entry}
 use Rattle.mpi_law.specs.declared.setting.Setting.{Setting}
 use Rattle.mpi_law.specs.ScriptLists.{AllScripts}
-use Rattle.mpi_law.specs.Registry.State.{blank_creation, creation_at}
-use Rattle.mpi_law.specs.Registry.Creations.{is_split}
+use Rattle.mpi_law.specs.Registry.State.{creation_at}
 use Rattle.mpi_law.specs.Closed.{is_picked_or_short, is_matched_out, is_settled, is_closed}
 use Rattle.mpi_protocol.specs.World.{opening, rank_at}
 use Rattle.mpi_protocol.specs.Run.{IsProtocolRun, end_of, events_of}
@@ -16,13 +13,13 @@ use Rattle.projection_law.specs.Events.{agreement_events}
 use Rattle.due_law.specs.Runs.{dues_of}
 use Rattle.registry_law.specs.Facts.{registry_of}
 use Rattle.registry_law.proofs.Runs.{registry_runs}
-use Rattle.run_law.proofs.Lists.{get_or_past}
 use Rattle.closed_law.proofs.Rests.{Rests, end_rests}
 use Rattle.closed_law.proofs.Matches.{matched_out}
 use Rattle.closed_law.proofs.Backs.{settled}
 use Rattle.closed_law.proofs.Asked.{Asked}
 use Rattle.closed_law.proofs.AskedRuns.{asked_at_end}
-use Rattle.closed_law.proofs.Creations.{NoneShares, none_splits, plain_decided}
+use Rattle.closed_law.proofs.Creations.{NoneShares, decided}
+use Rattle.closed_law.proofs.GatherRuns.{gathers_at_end, none_shares}
 use Rattle.closed_law.proofs.Receives.{counted_has}
 use Rattle.closed_law.proofs.ReceiveRuns.{counted_at_end}
 use Rattle.closed_law.proofs.Closes.{closes}
@@ -43,21 +40,16 @@ module _ (s : Setting) (scripts : AllScripts) (journal : List Entry) (sets : Set
     pub gives_nothing_back : (p : ℕ) → p < length (registry_of s journal).comms → is_settled (registry_of s journal) p ≡ true
     gives_nothing_back p lp = settled s scripts (end_of s journal) (agreement_events (opening s) journal) (dues_of s journal) (registry_of s journal) rests_here p lp
 
-    pub decides_no_creation : (n : ℕ) → n < length (registry_of s journal).creations → is_split (creation_at (registry_of s journal) n).name ≡ false → is_picked_or_short (creation_at (registry_of s journal) n) ≡ true
-    decides_no_creation n ln plain = plain_decided s scripts (end_of s journal) (agreement_events (opening s) journal) (dues_of s journal) (registry_of s journal) rests_here asked_here n ln plain
+    -- no exchange is held up
+    none_share : (n : ℕ) → NoneShares (end_of s journal) (registry_of s journal) n
+    none_share = none_shares s (end_of s journal) (agreement_events (opening s) journal) (dues_of s journal) (registry_of s journal) rests_here.together (gathers_at_end s sets journal run) rests_here.at_rest
 
-    -- the whole, where it is known that no exchange is held up
-    pub closes_but : ((n : ℕ) → NoneShares (end_of s journal) (registry_of s journal) n) → is_closed s scripts (registry_of s journal) ≡ true
-    closes_but shares = closes s scripts (end_of s journal) (agreement_events (opening s) journal) (dues_of s journal) (registry_of s journal) rests_here asked_here (record {
-      shares = shares;
+    pub decides_no_creation : (n : ℕ) → n < length (registry_of s journal).creations → is_picked_or_short (creation_at (registry_of s journal) n) ≡ true
+    decides_no_creation n ln = decided s scripts (end_of s journal) (agreement_events (opening s) journal) (dues_of s journal) (registry_of s journal) rests_here asked_here n (none_share n) ln
+
+    pub closed_here : is_closed s scripts (registry_of s journal) ≡ true
+    closed_here = closes s scripts (end_of s journal) (agreement_events (opening s) journal) (dues_of s journal) (registry_of s journal) rests_here asked_here (record {
+      shares = none_share;
       differ = λ r lr. differ_rows (rank_at (end_of s journal) r).comms.rows (rows_differ s sets journal run r);
       rows = λ r lr. (let c = counted_at_end s journal run r in counted_has (rank_at (end_of s journal) r).local.names (rank_at (end_of s journal) r).threads (rank_at (end_of s journal) r).receives (rank_at (end_of s journal) r).posts c);
     })
-
-    -- so where there is no split
-    pub closes_unsplit : ((n : ℕ) → n < length (registry_of s journal).creations → is_split (creation_at (registry_of s journal) n).name ≡ false) → is_closed s scripts (registry_of s journal) ≡ true
-    closes_unsplit plain = closes_but (λ n. none_splits s (end_of s journal) (dues_of s journal) (registry_of s journal) n rests_here.together.joined (each n (nat_lt n (length (registry_of s journal).creations)) refl))
-      where
-        each : (n : ℕ) (b : Bool) → nat_lt n (length (registry_of s journal).creations) ≡ b → is_split (creation_at (registry_of s journal) n).name ≡ false
-        each n true e = plain n (grind (arith, nat_tests, e))
-        each n false e = let past = get_or_past (registry_of s journal).creations n blank_creation (grind (arith, nat_tests, e)) in rw past refl

@@ -11,8 +11,16 @@ pub mod Threads
 pub mod Ended
 pub mod Closes
 pub mod Laws
+pub mod GoingOn
 pub mod Rows
 pub mod RowRuns
 pub mod Requests
 pub mod Receives
 pub mod ReceiveRuns
+pub mod Pending
+pub mod PendingEvents
+pub mod ExchangeWaits
+pub mod CreationEvents
+pub mod Gathering
+pub mod GatherSteps
+pub mod GatherRuns

@@ -5,3 +5,4 @@ pub mod Unique
 pub mod Found
 pub mod Plain
 pub mod PlainEntries
+pub mod Journals

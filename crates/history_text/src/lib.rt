@@ -3,11 +3,13 @@
 
 mod acts;
 mod ends;
+mod ranges;
 mod reading;
 #[cfg(test)]
 mod tests;
 mod writing;
 
+pub use ranges::entries_are_in_range;
 pub use reading::{read_entry, texts_tell};
 pub use token_text::Line;
 pub use writing::write_entry;

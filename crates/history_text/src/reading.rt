@@ -1,6 +1,6 @@
 //! Entries, read.
-ghost use Rattle.std.specs.Prelude.{◌≡◌, false, Some, IfSome};
-ghost use Rattle.history_text.specs.Text.{IsEntry, entry_text, has_line_feed};
+ghost use Rattle.std.specs.Prelude.{◌≡◌, false, List, All, Some, IfSome};
+ghost use Rattle.history_text.specs.Text.{IsEntry, entry_text, journal_text, has_line_feed};
 ghost use Rattle.mpi_base.specs.declared.entries.Entry.{Entry as AnyEntry};
 
 use crate::acts::read_tokens;
@@ -28,8 +28,10 @@ pub fn read_entry(line: &[u8]) -> Option<Entry>
     }
 }
 
-/// Two well-formed entries with one text are equal, and the text of one has no line feed.
+/// Two well-formed entries with one text are equal, and the text of one has no line feed. So two journals of
+/// well-formed entries with one text are equal.
 pub fn texts_tell()
     ensures one_line { (e : AnyEntry) → IsEntry e → has_line_feed (entry_text e) ≡ false }
     ensures alone { (a b : AnyEntry) → IsEntry a → IsEntry b → entry_text a ≡ entry_text b → a ≡ b }
+    ensures journals { (a b : List AnyEntry) → All IsEntry a → All IsEntry b → journal_text a ≡ journal_text b → a ≡ b }
 {}

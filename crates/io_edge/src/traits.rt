@@ -21,11 +21,12 @@ pub trait Source {
 
     /// Reads some bytes into the front of the buffer, and says how many.
     ///
-    /// No byte into a buffer with room is the end of the input.
+    /// No byte into a buffer with room is the end of the input. A read that fails takes no byte.
     fn read(&mut self, buf: &mut [u8]) -> Result<usize, Failed>
         ensures bound { IfOk result (λ n. n ≤ length buf.old) }
         ensures bytes { IfOk result (λ n. Gives (left self.old) (take n buf.new) (left self.new)) }
         ensures end { IfOk result (EndsAtNothing buf.old (left self.old)) }
+        ensures nothing_lost { OnErr result (left self.new ≡ left self.old) }
         ensures same_count { OnOk result (faults self.new ≡ faults self.old) }
         ensures failed { OnErr result (Rose (faults self.old) (faults self.new)) }
         ensures never_falls { faults self.old ≤ faults self.new }

@@ -4,6 +4,6 @@ mod SetFacts
 mod Spelled
 mod Faultless
 mod Added
-mod Unbuilt
+mod OneRank
 mod Laws
 mod Examples

@@ -67,16 +67,6 @@ pub enum JobFault {
         /// The first fault of the line.
         fault: LineFault,
     },
-    /// A line of the one script of `solo` spells an operation that may not be called yet; the first
-    /// such line.
-    NotBuilt {
-        /// The rank.
-        rank: u16,
-        /// The thread.
-        thread: u8,
-        /// The line of the script.
-        line: u32,
-    },
     /// All scripts together have more than 16,384 operations.
     TooManyOps,
     /// No memory was left.

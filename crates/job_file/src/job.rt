@@ -105,8 +105,7 @@ fn read_table(alloc: Global, bytes: &[u8]) -> Result<Table, JobFault>
 /// and all have at most 16,384 operations. The configured process sets stand behind `mpi://WORLD` and
 /// `mpi://SELF`, in the order of their names' bytes.
 ///
-/// Else the first fault in the order of [`JobFault`], but for `NotBuilt`, which never comes; or `Memory`,
-/// which is tied to no cause.
+/// Else the first fault in the order of [`JobFault`]; or `Memory`, which is tied to no cause.
 pub fn read_job(alloc: Global, bytes: &[u8]) -> Result<Job, JobFault>
     requires { length bytes.now < 2 ^ 32 - 1 }
     ensures ok { IfOk result (λ job. IsJob bytes.now job.setting job.scripts) }

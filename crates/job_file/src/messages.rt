@@ -129,10 +129,6 @@ impl fmt::Display for JobFault {
                 write_thread(f, *rank, *thread)?;
                 write_line(f, *line, fault)
             }
-            JobFault::NotBuilt { rank, thread, line } => {
-                write_thread(f, *rank, *thread)?;
-                write!(f, ", line {line}: this operation is not built yet")
-            }
             JobFault::TooManyOps => f.write_str("the scripts have more than 16,384 operations"),
             JobFault::Memory => f.write_str("no memory was left"),
         }

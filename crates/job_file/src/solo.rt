@@ -1,25 +1,23 @@
 //! The script of a job with one rank: a line for each operation of its first thread.
-ghost use Rattle.std.specs.Prelude.{◌≡◌, ◌⊎◌, ◌≤◌, ℕ, List, true, false, length, None, IfSome, IfNone, IfOk, IfErr};
+ghost use Rattle.std.specs.Prelude.{◌≡◌, ◌⊎◌, ℕ, List, IfOk, IfErr};
 ghost use Rattle.mpi_base.specs.declared.ops.Op.{Op as AnyOp};
 ghost use Rattle.mpi_law.specs.ScriptLists.{script_of};
-ghost use Rattle.job_file.specs.Lines.{lines_of, line_fault as line_fault_of, first_fault as first_fault_of};
-ghost use Rattle.job_file.specs.Solo.{solo_setting, solo_of, FirstUnbuilt, IsSoloScript, IsSoloFault, AllBuilt, IsBuilt, IsUnbuilt};
+ghost use Rattle.job_file.specs.Solo.{solo_setting, solo_of, IsSoloScript, IsSoloFault};
 
 use crate::faults::JobFault;
 use crate::job::Job;
-use crate::lines::{MOST_LINES, are_many, body, first_fault, first_line};
+use crate::lines::{are_many, first_fault};
 use crate::scripts::add_script;
 use mpi_law::{MOST_CONTEXTS, Scripts, Setting};
 use pset_reg::Psets;
-use script_text::{is_blank, lines_tell, read_line};
-use solo_registry::is_built;
+use script_text::lines_tell;
 use std::alloc::Global;
 
 /// The job of one rank, of which the bytes are the script of thread 0, with 63 contexts and no
 /// configured set. The other seven threads have no operation.
 ///
-/// Else the first fault: `ScriptLong`, `Line` or `NotBuilt`, of rank 0 and thread 0; or `Memory`, which
-/// is tied to no cause.
+/// Else the first fault: `ScriptLong` or `Line`, of rank 0 and thread 0; or `Memory`, which is tied to no
+/// cause.
 pub fn read_solo(alloc: Global, bytes: &[u8]) -> Result<Job, JobFault>
     ensures setting { IfOk result (λ job. job.setting ≡ solo_setting) }
     ensures alone { IfOk result (λ job. job.scripts ≡ solo_of (script_of job.scripts 0 0)) }
@@ -38,9 +36,6 @@ pub fn read_solo(alloc: Global, bytes: &[u8]) -> Result<Job, JobFault>
             fault,
         });
     }
-    if let Some(line) = first_unbuilt(bytes) {
-        return Err(JobFault::NotBuilt { rank, thread, line });
-    }
     let mut scripts = Scripts::none(alloc, 1)?;
     add_script(&mut scripts, rank, thread, bytes)?;
     Ok(Job {
@@ -51,42 +46,6 @@ pub fn read_solo(alloc: Global, bytes: &[u8]) -> Result<Job, JobFault>
         },
         scripts,
     })
-}
-
-/// The first line with an operation that may not be called yet, where no line has a fault.
-fn first_unbuilt(bytes: &[u8]) -> Option<u32>
-    requires few { length (lines_of bytes.now) ≤ MOST_LINES }
-    requires good { first_fault_of 1 (lines_of bytes.now) ≡ None }
-    ensures some { IfSome result (FirstUnbuilt 1 (lines_of bytes.now)) }
-    ensures none { IfNone result (AllBuilt (lines_of bytes.now)) }
-{
-    lines_tell();
-    let mut rest = bytes;
-    let mut number = 1;
-    while let Some((line, behind)) = first_line(rest) {
-        if !is_built_line(line) {
-            return Some(number);
-        }
-        rest = behind;
-        number += 1;
-    }
-    None
-}
-
-/// Whether what a line without a fault spells may be called yet.
-fn is_built_line(line: &[u8]) -> bool
-    requires { line_fault_of line.now ≡ None }
-    ensures built { result ≡ true → IsBuilt line.now }
-    ensures unbuilt { result ≡ false → IsUnbuilt line.now }
-{
-    let body = body(line);
-    if is_blank(body) {
-        return true;
-    }
-    match read_line(body) {
-        Ok(op) => is_built(1, &op),
-        Err(_) => unreachable!(),
-    }
 }
 
 /// Two scripts of the same bytes are equal, bytes that are a script have no fault, and no bytes have two

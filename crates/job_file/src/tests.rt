@@ -241,10 +241,6 @@ fn a_script_of_one_rank_has_its_fault(rt: HostRuntime) -> Result<(), Fail> {
             "session s\r\r\n",
             "rank 0, thread 0, line 1, column 9: a name, a process set or a string is wanted",
         ),
-        (
-            "session s\nsend c 0 1 -\nwait q",
-            "rank 0, thread 0, line 2: this operation is not built yet",
-        ),
     ] {
         assert_eq!(rt; solo_told(rt.alloc(), script.as_bytes())?.as_str(), said);
     }

@@ -22,7 +22,7 @@ type Piece = ArrayVec<u8, PIECE>;
 
 /// Writes all bytes, in as many pieces as the sink takes. After a fault a front of them, perhaps the
 /// empty one, has been written.
-fn write_all<K: Sink>(sink: &mut K, bytes: &[u8]) -> Result<(), Failed>
+pub fn write_all<K: Sink>(sink: &mut K, bytes: &[u8]) -> Result<(), Failed>
     ensures whole { OnOk result (Takes (K.written sink.old) bytes.now (K.written sink.new)) }
     ensures front { OnErr result (TakesFront (K.written sink.old) bytes.now (K.written sink.new)) }
     ensures same_count { OnOk result (K.faults sink.new ≡ K.faults sink.old) }

@@ -1,4 +1,3 @@
 mod Sessions
-mod Serials
-mod Draining
-mod Firsts
+mod Drained
+mod Formed

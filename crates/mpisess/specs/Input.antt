@@ -11,6 +11,10 @@ ReadsFront most before bytes after = (xs : List ℕ) → before ≡ Some xs → 
 pub record ReadsAll (before after : Option (List ℕ)) : Type 0 where
   pub left : (xs : List ℕ) → before ≡ Some xs → after ≡ Some (drop 4194305 xs)
 
+-- of a source that tells its bytes, at most so many were read
+pub record ReadsAtMost (most : ℕ) (before after : Option (List ℕ)) : Type 0 where
+  pub front : (xs : List ℕ) → before ≡ Some xs → (n : ℕ) × (n ≤ most) × (after ≡ Some (drop n xs))
+
 -- of a source that tells its bytes, these are all, at most 4 MiB
 abbrev pub ReadsWhole : Option (List ℕ) → List ℕ → Type 0
 ReadsWhole before bytes = (xs : List ℕ) → before ≡ Some xs → (bytes ≡ xs) × (length xs ≤ 4194304)

@@ -1,5 +1,6 @@
 pub mod Input
-pub mod Job
-pub mod Calls
-pub mod Session
-pub mod Serial
+pub mod Commands
+pub mod Jobs
+pub mod Statuses
+pub mod Idle
+pub mod Outputs

@@ -1,7 +1,7 @@
 //! The input of the program: all bytes of a source, up to a limit.
 ghost use Rattle.std.specs.Prelude.{◌≡◌, ◌≤◌, ◌+◌, true, Err, length, is_some, IfOk, OnOk};
 ghost use Rattle.io_edge.specs.Counts.{Rose};
-ghost use Rattle.mpisess.specs.Input.{ReadsFront, ReadsWhole, ReadsAll, TellsLong, was_ended};
+ghost use Rattle.mpisess.specs.Input.{ReadsFront, ReadsWhole, ReadsAll, ReadsAtMost, TellsLong, was_ended};
 
 use io_edge::{Failed, Source};
 use std::alloc::{AllocError, Global};
@@ -51,6 +51,7 @@ pub(crate) fn read_input<S: Source>(alloc: Global, source: &mut S) -> Result<Vec
     ensures read { IfOk result (λ bytes. ReadsWhole (S.left source.old) bytes.items) }
     ensures long { result ≡ Err InputError.TooLong → TellsLong (S.left source.old) }
     ensures all { was_ended result ≡ true → ReadsAll (S.left source.old) (S.left source.new) }
+    ensures most { ReadsAtMost 4194305 (S.left source.old) (S.left source.new) }
     ensures same_count { was_ended result ≡ true → S.faults source.new ≡ S.faults source.old }
     ensures failed { result ≡ Err InputError.Fault → Rose (S.faults source.old) (S.faults source.new) }
     // Want of memory is no fault of the source.
@@ -69,6 +70,7 @@ pub(crate) fn read_input<S: Source>(alloc: Global, source: &mut S) -> Result<Vec
 fn read_front<S: Source>(alloc: Global, source: &mut S, most: usize) -> Result<Vec<u8>, InputError>
     ensures short { IfOk result (λ bytes. length bytes.items ≤ most) }
     ensures read { IfOk result (λ bytes. ReadsFront most (S.left source.old) bytes.items (S.left source.new)) }
+    ensures most { ReadsAtMost most (S.left source.old) (S.left source.new) }
     ensures same_count { OnOk result (S.faults source.new ≡ S.faults source.old) }
     ensures failed { result ≡ Err InputError.Fault → Rose (S.faults source.old) (S.faults source.new) }
     ensures memory { result ≡ Err InputError.Memory → S.faults source.new ≡ S.faults source.old }

@@ -2,18 +2,21 @@
 //! output. Faults go to standard error, and so does who waits for what where a job ends stuck.
 #![tactic(auto)]
 
+mod command;
 mod input;
+mod jobs;
+mod output;
 mod run;
-mod serial;
 mod session;
-mod solo;
+mod status;
 #[cfg(test)]
 mod tests;
 
 use io_edge::{StdSink, StdSource};
 use job_file::JobFault;
 use mpi_base::Entry;
-use session::{Status, mpisess_calm};
+use session::mpisess_calm;
+use status::Status;
 use std::alloc::Global;
 use std::process::ExitCode;
 use std::rt::Env;
@@ -25,14 +28,18 @@ const VERSION: &str = "mpisess 0.1";
 const USAGE: &str = "\
 usage: mpisess serial < JOB > JOURNAL
        mpisess solo < SCRIPT > JOURNAL
+       mpisess gen NUMBER OPS > SUMMARY
        mpisess --help
        mpisess --version";
 
 const HELP: &str = "\
 usage: mpisess serial < JOB > JOURNAL
        mpisess solo < SCRIPT > JOURNAL
+       mpisess gen NUMBER OPS > SUMMARY
 
-Runs the job of many ranks, or the script of one, and writes a line for each step, with each reply.
+Runs the job of many ranks, or the script of one, and writes a line for each step, with each reply. Or
+makes a job of four ranks from a NUMBER below 2 to the 64th, with at most OPS operations (20 to 16,384),
+runs it and writes one line of counts.
 
 A job is a TOML document with these keys:
   format = 1                      the format of the job
@@ -43,7 +50,7 @@ A job is a TOML document with these keys:
 
 The lines of a script:
   session NAME                    opens a session
-  finalize NAME                   ends a session (serial)
+  finalize NAME                   ends a session
   psets NAME                      tells how many process sets there are
   nth NAME NUM                    tells the name of a process set
   info NAME PSET                  tells the size of a process set
@@ -56,18 +63,18 @@ The lines of a script:
   size NAME, rank NAME            tell the size of a group, and the rank in it
   gfree NAME                      frees a group
   create NAME STRING -> NAME      makes a communicator from a group and a string tag
-  create_group NAME NAME NUM -> NAME  makes one from a communicator, a group and a tag (serial)
+  create_group NAME NAME NUM -> NAME  makes one from a communicator, a group and a tag
   dup NAME -> NAME                duplicates a communicator
-  split NAME COLOUR KEY -> NAME   makes a communicator for each colour (serial)
+  split NAME COLOUR KEY -> NAME   makes a communicator for each colour
   group NAME -> NAME              makes the group of a communicator
   ccompare NAME NAME              compares communicators
   csize NAME, crank NAME          tell the size of a communicator, and the rank in it
   free NAME                       frees a communicator
-  send NAME RANK TAG HEX          sends bytes (serial)
-  recv NAME RANK TAG ROOM         receives; RANK and TAG may be any (serial)
-  irecv NAME RANK TAG ROOM -> NAME  posts a receive (serial)
-  wait NAME                       waits for a posted receive (serial)
-  await NAME                      waits until another thread has bound a name (serial)
+  send NAME RANK TAG HEX          sends bytes
+  recv NAME RANK TAG ROOM         receives; RANK and TAG may be any
+  irecv NAME RANK TAG ROOM -> NAME  posts a receive
+  wait NAME                       waits for a posted receive
+  await NAME                      waits until another thread has bound a name
 Spaces stand between the words. Blank lines and lines that begin with # are passed.
 
 The process ends with 0 where the journal was written and every script is ended, 1 where the words were

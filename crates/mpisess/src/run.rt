@@ -1,118 +1,95 @@
-//! The drain: the script of one rank, run to its end.
-ghost use Rattle.std.specs.Prelude.{◌≡◌, ◌<◌, ◌≤◌, ◌^◌, ◌-◌, ◌∷◌, [], ℕ, true, IfOk, IfSome, IfNone, option_copied, All};
-ghost use Rattle.mpi_base.specs.declared.ops.Op.{Op as AnyOp};
-ghost use Rattle.solo_registry.specs.Local.{is_alone_in};
-ghost use Rattle.mpi_law.specs.ScriptLists.{next_op as next_op_of};
-ghost use Rattle.solo_protocol.specs.Rank.{thread_at, round_of};
-ghost use Rattle.solo_protocol.specs.Step.{is_enabled, Steps};
-ghost use Rattle.solo_protocol.specs.Order.{IsFirstChoice, IsQuiet};
-ghost use Rattle.solo_protocol.specs.Run.{end_of};
-ghost use Rattle.mpi_base.specs.declared.keys.Key.{Key};
-ghost use Rattle.mpisess.specs.Calls.{IsNextCall, NoNextCall};
-ghost use Rattle.job_file.specs.Solo.{solo_setting};
-ghost use Rattle.mpisess.specs.Job.{IsSoloJob, IsDrainedRun};
+//! A job, run from its start until nothing is left to do.
+ghost use Rattle.std.specs.Prelude.{◌≡◌, ◌<◌, ℕ, true, false, IfOk, All};
+ghost use Rattle.mpi_law.specs.declared.setting.TheConstants.{THREADS};
+ghost use Rattle.mpi_law.specs.Settings.{IsSetting};
+ghost use Rattle.mpi_law.specs.ScriptLists.{script_of};
+ghost use Rattle.mpi_law.specs.Registry.State.{registry_opening};
+ghost use Rattle.mpi_law.specs.Registry.Runs.{IsRegistryRun};
+ghost use Rattle.mpi_law.specs.Closed.{is_closed};
+ghost use Rattle.mpi_protocol.specs.World.{opening};
+ghost use Rattle.mpi_protocol.specs.Run.{IsProtocolRun, end_of, events_of, calls_of};
+ghost use Rattle.mpi_protocol.specs.Order.{IsDrained, IsQuiet};
+ghost use Rattle.history_text.specs.Text.{IsEntry};
+ghost use Rattle.job_law.specs.Scripts.{ScriptsAreOps};
+ghost use Rattle.projection_law.specs.Premises.{SetsAreOfRanks};
+ghost use Rattle.registry_law.specs.Facts.{registry_of};
+ghost use Rattle.script_law.specs.Called.{AreOfScripts, AreEnded};
+ghost use Rattle.mpisess.specs.Idle.{RanksAreIdle, ThreadsAreIdle};
 
-use mpi_base::{Act, Entry, Op, OutOfMemory};
-use mpi_law::{Scripts, Setting};
-use solo_rank::{RankState, StepKind};
+use closed_law::quiet_ends_are_closed;
+use entry_law::entries_are_well_formed;
+use history_text::entries_are_in_range;
+use job_file::Job;
+use mpi_base::OutOfMemory;
+use mpi_law::THREADS;
+use registry_law::runs_are_registry_runs;
+use script_law::{drained_calls_are_of_scripts, ended_scripts_are_called_whole, ranks_stay};
 use std::alloc::Global;
-use world_core::Journal;
+use world_core::{Journal, World};
+use world_drain::drain;
 
-/// Runs the script of thread 0 of the only rank until nothing is left to do, each time making the first of the choices
-/// that may be made.
-pub(crate) fn drain(
-    alloc: Global,
-    setting: &Setting,
-    scripts: &Scripts,
-) -> Result<Journal, OutOfMemory>
-    requires setting { setting.now ≡ solo_setting }
-    requires job { IsSoloJob scripts.now }
-    ensures run { IfOk result (λ journal. IsDrainedRun scripts.now journal.entries) }
-    ensures quiet { IfOk result (λ journal. IsQuiet (end_of solo_setting journal.entries) scripts.now) }
-{
-    let mut state = RankState::<1>::start(alloc, 0, setting)?;
-    let mut journal = Journal::none(alloc);
-    while let Some(act) = next_act(&state, scripts) {
-        state.reserve()?;
-        journal.reserve(1)?;
-        journal.push(make(&mut state, act));
-    }
-    Ok(journal)
+/// What is left of a job that was run.
+#[derive(Drop)]
+pub(crate) struct Ran {
+    pub(crate) journal: Journal,
+    /// Whether every script is ended.
+    pub(crate) ended: bool,
 }
 
-/// The first choice that the drain may make; None where nothing is left to do. The rank is the only one, and
-/// any call may be made by it alone.
-fn next_act(state: &RankState<1>, scripts: &Scripts) -> Option<Act>
-    requires job { IsSoloJob scripts.now }
-    requires one { state.now.state.setting.ranks ≡ 1 }
-    requires alone { (op : AnyOp) → is_alone_in state.now.state.local op ≡ true }
-    ensures found { IfSome result (λ act. IsFirstChoice (state.now.state ∷ []) scripts.now (record { rank = 0; act = act })) }
-    ensures none { IfNone result (IsQuiet (state.now.state ∷ []) scripts.now) }
+/// Drains a job from its start.
+pub(crate) fn run_job(alloc: Global, job: &Job) -> Result<Ran, OutOfMemory>
+    requires setting { IsSetting job.now.setting }
+    requires ranks { job.now.scripts.ranks ≡ job.now.setting.ranks }
+    requires sets { SetsAreOfRanks job.now.setting }
+    requires ops { ScriptsAreOps job.now.setting.ranks job.now.scripts }
+    ensures run { IfOk result (λ ran. IsProtocolRun job.now.setting ran.journal.entries) }
+    ensures registry { IfOk result (λ ran. IsRegistryRun job.now.setting (registry_opening job.now.setting) (events_of ran.journal.entries)) }
+    ensures drained { IfOk result (λ ran. IsDrained job.now.scripts (opening job.now.setting) ran.journal.entries) }
+    ensures quiet { IfOk result (λ ran. IsQuiet (end_of job.now.setting ran.journal.entries) job.now.scripts) }
+    ensures closed { IfOk result (λ ran. is_closed job.now.setting job.now.scripts (registry_of job.now.setting ran.journal.entries) ≡ true) }
+    ensures well_formed { IfOk result (λ ran. All IsEntry ran.journal.entries) }
+    ensures script { IfOk result (λ ran. AreOfScripts job.now.scripts (end_of job.now.setting ran.journal.entries) ran.journal.entries) }
+    ensures ended { IfOk result (λ ran. ran.ended ≡ true → AreEnded job.now.scripts (end_of job.now.setting ran.journal.entries)) }
+    ensures whole { IfOk result (λ ran. ran.ended ≡ true → (r t : ℕ) → r < job.now.setting.ranks → t < THREADS → calls_of r t ran.journal.entries ≡ script_of job.now.scripts r t) }
+    ensures stuck { IfOk result (λ ran. ran.ended ≡ false → AreEnded job.now.scripts (end_of job.now.setting ran.journal.entries) → ⊥) }
 {
-    if let Some(act) = state.next(StepKind::Answer, None) {
-        return Some(act);
-    }
-    if let Some(act) = state.next(StepKind::Settle, None) {
-        return Some(act);
-    }
-    if let Some(act) = state.next(StepKind::Offer, None) {
-        return Some(act);
-    }
-    if let Some(act) = state.next(StepKind::Leave, None) {
-        return Some(act);
-    }
-    if let Some(act) = state.next(StepKind::Back, None) {
-        return Some(act);
-    }
-    next_call(state, scripts)
+    let mut world = World::<1>::start(alloc, job.setting.try_copy(alloc)?)?;
+    drain(&mut world, &job.scripts)?;
+    let ended = ranks_are_idle(&world);
+    let journal = world.into_journal();
+    entries_are_in_range(journal.as_slice());
+    entries_are_well_formed();
+    runs_are_registry_runs();
+    quiet_ends_are_closed();
+    ranks_stay();
+    drained_calls_are_of_scripts();
+    ended_scripts_are_called_whole();
+    Ok(Ran { journal, ended })
 }
 
-/// The next call of thread 0, where it may be made.
-fn next_call(state: &RankState<1>, scripts: &Scripts) -> Option<Act>
-    requires { IsSoloJob scripts.now }
-    ensures found { IfSome result (λ act. IsNextCall state.now.state scripts.now act) }
-    ensures none { IfNone result (NoNextCall state.now.state scripts.now) }
+/// Whether no thread of a rank waits.
+fn threads_are_idle(world: &World<1>, rank: u16) -> bool
+    requires { rank < world.now.setting.ranks }
+    ensures idle { result ≡ true → ThreadsAreIdle world.now.world rank }
+    ensures waits { result ≡ false → ThreadsAreIdle world.now.world rank → ⊥ }
 {
-    let op = next_op(scripts, state.calls(0))?;
-    let act = Act::Call {
-        thread: 0,
-        op: op.copy(),
-    };
-    if !state.enabled(&act) {
-        return None;
+    for thread in 0..THREADS {
+        if !world.idle(rank, thread) {
+            return false;
+        }
     }
-    Some(act)
+    true
 }
 
-/// The operation that thread 0 calls after so many calls; None at the end of its script.
-fn next_op(scripts: &Scripts, calls: u64) -> Option<&Op>
-    requires { IsSoloJob scripts.now }
-    ensures { option_copied result ≡ next_op_of scripts.now 0 0 calls }
+/// Whether no thread waits.
+fn ranks_are_idle(world: &World<1>) -> bool
+    ensures idle { result ≡ true → RanksAreIdle world.now.setting.ranks world.now.world }
+    ensures waits { result ≡ false → RanksAreIdle world.now.setting.ranks world.now.world → ⊥ }
 {
-    if calls >= scripts.len(0, 0) as u64 {
-        return None;
+    for rank in 0..world.setting().ranks {
+        if !threads_are_idle(world, rank) {
+            return false;
+        }
     }
-    Some(scripts.op(0, 0, calls as u32))
-}
-
-/// Makes a step.
-#[tactic(auto, unfolding(solo_protocol::specs::Step::is_enabled))]
-fn make(state: &mut RankState<1>, act: Act) -> Entry
-    requires enabled { is_enabled state.old.state act ≡ true }
-    requires room { 1 ≤ state.old.spare }
-    requires sessions { state.old.state.local.opened < 2 ^ 64 - 1 }
-    requires calls { (t : ℕ) → (thread_at state.old.state t).calls < 2 ^ 64 - 1 }
-    requires rounds { (key : Key) → round_of state.old.state.rounds key < 2 ^ 64 - 1 }
-    requires creations { All (λ m. m.creations < 2 ^ 64 - 1) state.old.state.comms }
-    ensures { Steps state.old.state act state.new.state result }
-{
-    match act {
-        Act::Call { thread, op } => state.call(thread, op),
-        Act::Answer { thread } => state.answer(thread),
-        Act::Deliver { .. } => unreachable!(),
-        Act::Offer { key } => state.offer(key),
-        Act::Settle { key } => state.settle(key),
-        Act::Leave { ctx } => state.leave(ctx),
-        Act::Back { ctx } => state.back(ctx),
-    }
+    true
 }

@@ -1,11 +1,13 @@
 //! Sessions of the program, as examples.
 ghost use Rattle.std.specs.Prelude.{◌≡◌, ◌≤◌};
 
-use crate::session::{Done, Status, mpisess_calm};
+use crate::session::{Done, mpisess_calm};
+use crate::status::Status;
 use history_text::{Line, read_entry, write_entry};
 use io_edge::{MemorySink, MemorySource, Source, SureSink, SureSource};
 use job_file::read_job;
 use job_law::sets_of_jobs_are_of_ranks;
+use journal_summary::Summary;
 use mpi_base::Choice;
 use std::alloc::Global;
 use std::process::Abort;
@@ -15,6 +17,15 @@ use world_core::World;
 use world_drain::drain;
 
 const SCRIPT: &[u8] = b"session s\npset s mpi://SELF -> g\ncreate g \"a\" -> c\n";
+
+/// The words of the command line of a generated job.
+fn gen_words(alloc: Global, number: &str, ops: &str) -> Result<Vec<String>, Fail> {
+    let mut words = Vec::new(alloc);
+    for word in ["gen", number, ops] {
+        words.push(word.to_string(alloc)?)?;
+    }
+    Ok(words)
+}
 
 /// The one word of the command line.
 fn words(alloc: Global, word: &str) -> Result<Vec<String>, Fail> {
@@ -404,5 +415,44 @@ fn a_creation_whose_rank_is_taken_tries_again(rt: HostRuntime) -> Result<(), Fai
     for line in &RETRIED {
         assert!(rt; has_line(&world, line), "{line}");
     }
+    Ok(())
+}
+
+#[test]
+fn generated_jobs_give_their_summaries(rt: HostRuntime) -> Result<(), Fail> {
+    let alloc = rt.alloc();
+    let bare = "ops=20 steps=70 picks=1 exhausted=0 matches=0 retries=0 dropped=0\n";
+    let message = "ops=22 steps=74 picks=1 exhausted=0 matches=1 retries=0 dropped=0\n";
+    for (ops, status, text) in [
+        ("19", Status::Usage, ""),
+        ("20", Status::Fine, bare),
+        ("27", Status::Fine, bare),
+        ("28", Status::Fine, message),
+        ("29", Status::Fine, message),
+    ] {
+        let mut source = SureSource::new(b"unread".to_vec(alloc)?, 9);
+        let mut sink = sink(alloc, 7, None)?;
+        let done = mpisess_calm(alloc, &gen_words(alloc, "1", ops)?, &mut source, &mut sink);
+        assert_eq!(rt; done.status, status);
+        assert_eq!(rt; sink.bytes(), text.as_bytes());
+        assert_eq!(rt; source.read(&mut [0; 9]), Ok(6));
+    }
+    Ok(())
+}
+
+#[test]
+fn a_large_generated_job_ends_with_one_summary(rt: HostRuntime) -> Result<(), Fail> {
+    let alloc = rt.alloc();
+    let words = gen_words(alloc, "2", "4000")?;
+    let mut source = SureSource::new(Vec::new(alloc), 1);
+    let mut first = sink(alloc, 1_000, None)?;
+    let done = mpisess_calm(alloc, &words, &mut source, &mut first);
+    assert_eq!(rt; done.status, Status::Fine);
+    let ops = Summary::of(done.journal.as_slice()).ops;
+    assert!(rt; (3_994..=4_000).contains(&ops) && ops % 2 == 0, "{ops}");
+    let mut second = sink(alloc, 1_000, None)?;
+    let again = mpisess_calm(alloc, &words, &mut source, &mut second);
+    assert_eq!(rt; again.status, Status::Fine);
+    assert_eq!(rt; first.bytes(), second.bytes());
     Ok(())
 }

@@ -19,3 +19,4 @@ pub mod Tellings
 pub mod Steps
 pub mod Packets
 pub mod Runs
+pub mod KeysStand

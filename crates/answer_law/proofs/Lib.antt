@@ -1,0 +1,23 @@
+pub mod Lists
+pub mod Comms
+pub mod Names
+pub mod Asks
+pub mod Classes
+pub mod Creations
+pub mod Joins
+pub mod Changes
+pub mod Owed
+pub mod Sound
+pub mod Runs
+pub mod Told
+pub mod Numbered
+pub mod Lines
+pub mod LineSteps
+pub mod Takings
+pub mod Received
+pub mod Order
+pub mod Waits
+pub mod Callers
+pub mod Called
+pub mod Made
+mod Examples

@@ -1,0 +1,5 @@
+mod Totals
+mod Rounds
+mod Told
+mod Examples
+mod Formed

@@ -1,0 +1,4 @@
+pub mod Draws
+pub mod Parts
+pub mod Adding
+pub mod Words

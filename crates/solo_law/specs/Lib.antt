@@ -1,2 +1,0 @@
-pub mod Solo
-pub mod Keys

@@ -1,9 +1,0 @@
-use Rattle.std.proofs.Common.{refl}
-use Rattle.solo_protocol.specs.declared.rows.CommStage.TheVariants.{Left}
-use Rattle.solo_rank.proofs.CommFacts.{IsRank-changed, contexts-set_comm_stage}
-use Rattle.solo_rank.proofs.rank.RankState.leave.Goals as goal
-
-pub invariant_of-self : goal.invariant_of-self
-invariant_of-self g c =
-    IsRank-changed _ _ _ c.self.inside.comms.items _ c.self.inside.threads.items _ c.self.invariant
-    (rw (c.set_comm_stage.ensures.rows, contexts-set_comm_stage c.self.inside.comms.items c.args.ctx Left) c.self.invariant.contexts) refl

@@ -1,6 +1,0 @@
-use Rattle.std.proofs.Common.{◌≡◌, ◌++◌, take, drop, map}
-use Rattle.solo_protocol.specs.Rank.{staged}
-use Rattle.solo_rank.proofs.rows.set_stage.Given as goal
-
-abbrev pub invariant-loop-row : goal.invariant-loop-row
-invariant-loop-row l = l.row-items ≡ map (staged l.key l.stage) (take l.row-index l.initial.row-items) ++ drop l.row-index l.initial.row-items

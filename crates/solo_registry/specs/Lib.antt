@@ -1,4 +1,0 @@
-pub mod Built
-pub mod Local
-pub mod Registry
-pub mod Closed
