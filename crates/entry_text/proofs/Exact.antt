@@ -7,13 +7,15 @@ use Rattle.mpi_base.specs.declared.errors.ErrClass.{ErrClass}
 use Rattle.mpi_base.specs.declared.errors.ErrClass.TheVariants as class
 use Rattle.mpi_base.specs.declared.entries.Said.{Said}
 use Rattle.mpi_base.specs.declared.entries.Said.TheVariants.{Own, Zero, Ready, Retry, Picked, Exhausted, Shared}
-use Rattle.token_text.specs.Forms.{fault_of, IsExact, is_solid}
+use Rattle.token_text.specs.Forms.{fault_of}
+use Rattle.token_text.specs.Reading.{IsExact, is_solid}
 use Rattle.token_text.specs.Numbers.{number_form}
 use Rattle.token_text.proofs.Decimals.{decimal_number}
 use Rattle.token_text.proofs.Marks.{lacks, lacks_both, number_lacks, number_some, solid_of}
 use Rattle.token_text.proofs.Exact.{number_exact}
 use Rattle.token_text.proofs.ExactLists.{word_exact, number_apart}
-use Rattle.entry_text.specs.Labels.{most_16, most_64, labelled_text, is_labelled, labelled_form, before_dot, behind_dot, sent_form, picked_form, own_rank_form, class_in, class_form, round_text, IsRoundSaid, round_form}
+use Rattle.entry_text.specs.Labels.{most_16, most_64, labelled_text, before_dot, behind_dot, sent_form, own_rank_form, round_text, IsRoundSaid}
+use Rattle.entry_text.specs.LabelForms.{is_labelled, labelled_form, picked_form, class_in, class_form, round_form}
 
 -- a label in front of a text
 label_taken : (xs ys : List ℕ) → (bytes_eq (take (length xs) (xs ++ ys)) xs ≡ true) × (drop (length xs) (xs ++ ys) ≡ ys)

@@ -1,7 +1,8 @@
 -- The tokens of a part fit its pieces, and tell what it shows, whatever tokens follow.
 use Rattle.std.proofs.Common.{◌≡◌, ℕ, true, List, ◌∷◌, ◌++◌, bytes_eq, refl}
 use Rattle.std.specs.List.{AllByRecursion}
-use Rattle.token_text.specs.Forms.{Form, IsExact, is_solid}
+use Rattle.token_text.specs.Forms.{Form}
+use Rattle.token_text.specs.Reading.{IsExact, is_solid}
 use Rattle.entry_text.specs.Words.{word_text}
 use Rattle.entry_text.specs.Grammar.{Row, Piece, branch, token, exactly, goes_on, row, fit}
 use Rattle.entry_text.specs.Parts.{Part, one_token}

@@ -5,17 +5,20 @@ use Rattle.std.proofs.lemmas.Fmt.{digits_value-decimal, decimal_digit}
 use Rattle.std.proofs.lemmas.Slice.Eq.{bytes_eq-Decides}
 use Rattle.std.specs.Str.Parse.{digits_value}
 use Rattle.mpi_base.specs.declared.replies.Reply.TheVariants.{Received}
-use Rattle.token_text.specs.Forms.{Shows, fault_of}
+use Rattle.token_text.specs.Forms.{fault_of}
+use Rattle.token_text.specs.Reading.{Shows}
 use Rattle.token_text.specs.Texts.{hex_form}
 use Rattle.token_text.specs.declared.faults.TokenFault.{TokenFault}
 use Rattle.token_text.proofs.Decimals.{own}
 use Rattle.token_text.proofs.Hex.{digits_again}
 use Rattle.script_text.specs.Tokens.{texts}
 use Rattle.script_text.specs.Reads.{Ahead}
-use Rattle.entry_text.specs.Labels.{most_16, most_64, labelled_text, labelled_form}
+use Rattle.entry_text.specs.Labels.{most_16, most_64, labelled_text}
+use Rattle.entry_text.specs.LabelForms.{labelled_form}
 use Rattle.entry_text.specs.Grammar.{source, sized, shown_bytes, source_pieces, bytes_piece, fit}
 use Rattle.entry_text.specs.Parts.{Took, Stops, Opens, text_part}
-use Rattle.entry_text.specs.Replies.{source_text, bytes_part, message_part}
+use Rattle.entry_text.specs.Replies.{source_text}
+use Rattle.entry_text.specs.Reading.{bytes_part, message_part}
 
 -- how many bytes follow
 pub len_some : (t : List ℕ) (n : ℕ) (old new : Ahead) → texts old.tokens ≡ t ∷ texts new.tokens → Shows (labelled_form (codes "len=") most_64) t n → Opens (sized ∷ []) (bytes_piece n ∷ []) (labelled_text (codes "len=") n) old new

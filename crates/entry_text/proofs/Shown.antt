@@ -6,11 +6,13 @@ use Rattle.std.proofs.lemmas.Slice.Eq.{bytes_eq-Decides}
 use Rattle.std.specs.List.{position_or_len}
 use Rattle.mpi_base.specs.Classes.{text_of_lem}
 use Rattle.mpi_base.specs.declared.errors.ErrClass.{ErrClass}
-use Rattle.token_text.specs.Forms.{Shows, fault_of}
+use Rattle.token_text.specs.Forms.{fault_of}
+use Rattle.token_text.specs.Reading.{Shows}
 use Rattle.token_text.specs.Numbers.{number_form}
 use Rattle.token_text.specs.declared.faults.TokenFault.{TokenFault}
 use Rattle.std.proofs.lemmas.List.Recursion.{is_position_or_len}
-use Rattle.entry_text.specs.Labels.{most_64, sent_form, before_dot, behind_dot, all_classes, class_in, class_form}
+use Rattle.entry_text.specs.Labels.{most_64, sent_form, before_dot, behind_dot}
+use Rattle.entry_text.specs.LabelForms.{all_classes, class_in, class_form}
 use Rattle.entry_text.proofs.WordFacts.{found_of}
 
 -- a class that is found has the text

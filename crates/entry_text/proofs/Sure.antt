@@ -7,17 +7,20 @@ use Rattle.mpi_base.specs.declared.keys.Kind.TheVariants as kind
 use Rattle.mpi_base.specs.declared.keys.Key.{Key}
 use Rattle.mpi_base.specs.declared.entries.Said.{Said}
 use Rattle.mpi_base.specs.declared.entries.Said.TheVariants as said
-use Rattle.token_text.specs.Forms.{Form, IsExact}
+use Rattle.token_text.specs.Forms.{Form}
+use Rattle.token_text.specs.Reading.{IsExact}
 use Rattle.token_text.specs.Numbers.{number_form}
 use Rattle.token_text.specs.Texts.{tag_form}
 use Rattle.token_text.specs.Lists.{members_form}
 use Rattle.token_text.proofs.Exact.{number_exact, tag_exact}
 use Rattle.token_text.proofs.ExactLists.{members_exact}
-use Rattle.entry_text.specs.Labels.{most_16, most_64, picked_form}
+use Rattle.entry_text.specs.Labels.{most_16, most_64}
+use Rattle.entry_text.specs.LabelForms.{picked_form}
 use Rattle.entry_text.specs.Grammar.{Row, Piece, branch, token, number, key, settled, key_pieces, said_pieces, fit}
 use Rattle.entry_text.specs.Grammar as row
-use Rattle.entry_text.specs.Keys.{kind_text, behind_kind, key_tokens, ShowsAll, IsKey, key_part}
-use Rattle.entry_text.specs.Said.{said_tokens, IsVerdict, owning_said, owning_part, verdict_part}
+use Rattle.entry_text.specs.Keys.{kind_text, behind_kind, key_tokens, ShowsAll, IsKey}
+use Rattle.entry_text.specs.Reading.{key_part, owning_part, verdict_part}
+use Rattle.entry_text.specs.Said.{said_tokens, IsVerdict, owning_said}
 use Rattle.entry_text.specs.declared.words.Word.TheVariants as word
 use Rattle.entry_text.proofs.Exact.{picked_exact}
 use Rattle.entry_text.proofs.Fit.{IsSolid, IsSure, fit_token, fit_word}

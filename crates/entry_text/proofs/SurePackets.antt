@@ -7,14 +7,16 @@ use Rattle.mpi_base.specs.declared.keys.Key.{Key}
 use Rattle.mpi_base.specs.declared.entries.Said.{Said}
 use Rattle.mpi_base.specs.declared.entries.Brief.{Brief}
 use Rattle.mpi_base.specs.declared.entries.Brief.TheVariants.{Up, Down, Share, Shares, Msg, Marker}
-use Rattle.token_text.specs.Forms.{IsExact}
+use Rattle.token_text.specs.Reading.{IsExact}
 use Rattle.token_text.specs.Numbers.{number_form}
-use Rattle.entry_text.specs.Labels.{most_8, most_16, most_64, labelled_form, round_form}
+use Rattle.entry_text.specs.Labels.{most_8, most_16, most_64}
+use Rattle.entry_text.specs.LabelForms.{labelled_form, round_form}
 use Rattle.entry_text.specs.Grammar.{Piece, branch, key_pieces, said_pieces, fit}
 use Rattle.entry_text.specs.Grammar as row
 use Rattle.entry_text.specs.Keys.{behind_kind, key_tokens, kind_text, IsKey}
-use Rattle.entry_text.specs.Said.{said_tokens, owning_said, IsSettled, settled_part}
-use Rattle.entry_text.specs.Briefs.{brief_tokens, IsBrief, brief_part}
+use Rattle.entry_text.specs.Said.{said_tokens, owning_said, IsSettled}
+use Rattle.entry_text.specs.Reading.{settled_part, brief_part}
+use Rattle.entry_text.specs.Briefs.{brief_tokens, IsBrief}
 use Rattle.entry_text.specs.declared.words.Word.TheVariants as word
 use Rattle.entry_text.proofs.Exact.{labelled_exact, context_exact, round_exact}
 use Rattle.entry_text.proofs.Fit.{IsSolid, IsSure, fit_token, fit_text, fit_word}

@@ -11,17 +11,19 @@ use Rattle.mpi_base.specs.declared.groups.Likeness.TheVariants as like
 use Rattle.mpi_base.specs.declared.messages.Matched.{Matched}
 use Rattle.mpi_base.specs.declared.replies.Reply.{Reply}
 use Rattle.mpi_base.specs.declared.replies.Reply.TheVariants.{Fine, Refused, Null, Psets, NthName, Size0, Group, Ranks, Like, Size, Rank, Comm, Received}
-use Rattle.token_text.specs.Forms.{IsExact}
+use Rattle.token_text.specs.Reading.{IsExact}
 use Rattle.token_text.specs.Numbers.{number_form}
 use Rattle.token_text.specs.Texts.{pset_name_form, hex_form}
 use Rattle.token_text.specs.Lists.{rank_outs_form, members_form}
 use Rattle.token_text.proofs.Decimals.{own}
 use Rattle.token_text.proofs.Exact.{number_exact, pset_name_exact, hex_exact}
 use Rattle.token_text.proofs.ExactLists.{number_apart, rank_outs_exact, members_exact}
-use Rattle.entry_text.specs.Labels.{most_16, most_32, most_64, labelled_text, labelled_form, sent_form, own_rank_form, class_form}
+use Rattle.entry_text.specs.Labels.{most_16, most_32, most_64, labelled_text, sent_form, own_rank_form}
+use Rattle.entry_text.specs.LabelForms.{labelled_form, class_form}
 use Rattle.entry_text.specs.Grammar.{Piece, branch, source, sized, source_pieces, bytes_piece, match_pieces, fit}
 use Rattle.entry_text.specs.Grammar as row
-use Rattle.entry_text.specs.Replies.{like_text, message_tokens, reply_tokens, IsMessage, IsReply, reply_part, match_tokens, IsMatched, match_part}
+use Rattle.entry_text.specs.Replies.{like_text, message_tokens, reply_tokens, IsMessage, IsReply, match_tokens, IsMatched}
+use Rattle.entry_text.specs.Reading.{reply_part, match_part}
 use Rattle.entry_text.specs.declared.words.Word.TheVariants as word
 use Rattle.entry_text.proofs.Exact.{labelled_exact, context_exact, same_behind, sent_exact, own_rank_exact, class_exact}
 use Rattle.entry_text.proofs.Fit.{IsSolid, IsSure, fit_token, fit_text, fit_word}

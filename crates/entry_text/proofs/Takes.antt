@@ -2,8 +2,9 @@
 use Rattle.std.proofs.Common.{◌≡◌, ℕ, true, false, List, [], ◌∷◌, ◌++◌, Option, Some, None, Result, Ok, Err, IfSome, bytes_eq, refl, sym, ap, ◌∙◌}
 use Rattle.std.specs.Result.{result_ok}
 use Rattle.std.proofs.lemmas.Slice.Eq.{bytes_eq-Decides}
-use Rattle.token_text.specs.Forms as forms
-use Rattle.token_text.specs.Forms.{Form, Shows, fault_of}
+use Rattle.token_text.specs.Reading as reading
+use Rattle.token_text.specs.Forms.{Form, fault_of}
+use Rattle.token_text.specs.Reading.{Shows}
 use Rattle.token_text.specs.declared.faults.TokenFault.{TokenFault}
 use Rattle.script_text.specs.Tokens.{texts}
 use Rattle.script_text.specs.Reads.{Ahead}
@@ -34,7 +35,7 @@ unfolding fit
 stops_short f old e qs = rw e refl
 
 -- one token read as a form
-pub read_one : {V : Type 0} (f : Form V) (t : List ℕ) (r : Result V TokenFault) (o : Option V) (old new : Ahead) → texts old.tokens ≡ t ∷ texts new.tokens → forms.Reads f t r → o ≡ result_ok r → Reads (one_token f) old new o
+pub read_one : {V : Type 0} (f : Form V) (t : List ℕ) (r : Result V TokenFault) (o : Option V) (old new : Ahead) → texts old.tokens ≡ t ∷ texts new.tokens → reading.Reads f t r → o ≡ result_ok r → Reads (one_token f) old new o
 read_one f t (Ok v) o old new e h q = rw q (took_one f t v old new e h)
 read_one f t (Err fault) o old new e h q = rw q (stops_one f t (texts new.tokens) fault old e h)
 

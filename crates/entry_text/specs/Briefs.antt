@@ -3,8 +3,6 @@ use Rattle.std.specs.Prelude.{ℕ, ◌≤◌, List, [], ◌∷◌, ◌++◌, cod
 use Rattle.mpi_base.specs.declared.entries.Brief.{Brief}
 use Rattle.mpi_base.specs.declared.entries.Brief.TheVariants.{Up, Down, Share, Shares, Msg, Marker}
 use Rattle.entry_text.specs.Labels.{most_8, most_16, most_64, labelled_text, round_text, IsRoundSaid}
-use Rattle.entry_text.specs.Grammar.{branch, brief}
-use Rattle.entry_text.specs.Parts.{Part}
 use Rattle.entry_text.specs.Keys.{key_tokens, IsKey}
 use Rattle.entry_text.specs.Said.{said_tokens, owning_said}
 
@@ -25,7 +23,3 @@ IsBrief (Share k) = IsKey k
 IsBrief (Shares k) = IsKey k
 IsBrief (Msg c l n) = (c ≤ most_16) × (l ≤ most_8) × (n ≤ most_64)
 IsBrief (Marker c) = c ≤ most_16
-
--- packets
-abbrev pub brief_part : Part Brief
-brief_part = record { pieces = branch brief ∷ []; tokens = brief_tokens; Fits = IsBrief }

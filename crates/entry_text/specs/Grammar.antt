@@ -13,7 +13,8 @@ use Rattle.token_text.specs.Texts.{pset_name_form, tag_form, hex_form}
 use Rattle.token_text.specs.Lists.{rank_outs_form, members_form}
 use Rattle.script_text.specs.Faults.{token_fault}
 use Rattle.entry_text.specs.Words.{word_text, word_in}
-use Rattle.entry_text.specs.Labels.{most_8, most_16, most_32, most_64, labelled_form, sent_form, picked_form, own_rank_form, class_form, round_form}
+use Rattle.entry_text.specs.Labels.{most_8, most_16, most_32, most_64, sent_form, own_rank_form}
+use Rattle.entry_text.specs.LabelForms.{labelled_form, picked_form, class_form, round_form}
 use Rattle.entry_text.specs.declared.words.Word.{Word}
 use Rattle.entry_text.specs.declared.words.Word.TheVariants as word
 

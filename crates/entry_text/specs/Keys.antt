@@ -1,5 +1,5 @@
 -- Keys of creations, as a line shows them.
-use Rattle.std.specs.Prelude.{◌≡◌, ℕ, ◌≤◌, List, [], ◌∷◌, ◌++◌, Option, Some, None, codes, decimal}
+use Rattle.std.specs.Prelude.{◌≡◌, ℕ, ◌≤◌, List, [], ◌∷◌, codes, decimal}
 use Rattle.mpi_base.specs.Texts.{IsTag}
 use Rattle.mpi_base.specs.MemberLists.{AreRanks}
 use Rattle.mpi_base.specs.declared.keys.Kind.{Kind}
@@ -7,10 +7,7 @@ use Rattle.mpi_base.specs.declared.keys.Kind.TheVariants as kind
 use Rattle.mpi_base.specs.declared.keys.Key.{Key}
 use Rattle.token_text.specs.Texts.{tag_form}
 use Rattle.token_text.specs.Lists.{members_form}
-use Rattle.script_text.specs.Reads.{Ahead}
 use Rattle.entry_text.specs.Labels.{most_16, most_64}
-use Rattle.entry_text.specs.Grammar.{branch, key, settled, number, token, key_pieces, said_pieces}
-use Rattle.entry_text.specs.Parts.{Part, Stops, Opens}
 
 -- what a key with a parent shows behind its word
 abbrev pub parent_tokens : Key → List (List ℕ)
@@ -51,24 +48,3 @@ pub record IsKey (k : Key) : Type 0 where
   pub tag : IsTag k.tag
   pub members : AreRanks k.members
   pub shows_all : ShowsAll k.kind k
-
--- keys
-abbrev pub key_part : Part Key
-key_part = record { pieces = branch key ∷ []; tokens = key_tokens; Fits = IsKey }
-
--- the word of a key, and what it opens
-abbrev pub ReadsKind : Ahead → Ahead → Option Kind → Type 0
-ReadsKind old new (Some k) = Opens (branch key ∷ []) (key_pieces k) (kind_text k) old new × Opens (branch settled ∷ []) (key_pieces k ++ said_pieces k) (kind_text k) old new
-ReadsKind old new None = Stops (branch key ∷ []) old × Stops (branch settled ∷ []) old
-
--- what a key with a parent shows behind the word of its kind
-abbrev pub numbered_part : Kind → Part Key
-numbered_part kind = record {
-  pieces = number most_16 ∷ number most_64 ∷ token members_form ∷ [];
-  tokens = parent_tokens;
-  Fits = λ k. (k.kind ≡ kind) × (k.parent ≤ most_16) × (k.number ≤ most_64) × AreRanks k.members × (k.tag ≡ []);
-}
-
--- keys of a kind, behind its word
-abbrev pub kind_part : Kind → Part Key
-kind_part kind = record { pieces = key_pieces kind; tokens = behind_kind kind; Fits = λ k. (k.kind ≡ kind) × IsKey k }

@@ -1,9 +1,5 @@
 -- Tokens that only journals have.
-use Rattle.std.specs.Prelude.{ℕ, ◌≤◌, ◌==◌, ◌&&◌, ◌||◌, Bool, false, if◌then◌else◌, List, [], ◌∷◌, ◌++◌, length, take, drop, Option, codes, bytes_eq, decimal, find}
-use Rattle.std.specs.Option.{is_some}
-use Rattle.mpi_base.specs.Classes.{text_of_lem}
-use Rattle.mpi_base.specs.declared.errors.ErrClass.{ErrClass}
-use Rattle.mpi_base.specs.declared.errors.ErrClass.TheVariants as class
+use Rattle.std.specs.Prelude.{ℕ, ◌≤◌, ◌==◌, ◌&&◌, false, if◌then◌else◌, List, [], ◌∷◌, ◌++◌, Option, codes, decimal}
 use Rattle.mpi_base.specs.declared.entries.Said.{Said}
 use Rattle.mpi_base.specs.declared.entries.Said.TheVariants.{Own, Zero, Ready, Retry, Picked, Exhausted, Shared}
 use Rattle.token_text.specs.Forms.{Form}
@@ -27,14 +23,6 @@ most_64 = 18446744073709551615
 abbrev pub labelled_text : List ℕ → ℕ → List ℕ
 labelled_text label n = label ++ decimal n
 
--- whether a text begins with a label and goes on as a number
-abbrev pub is_labelled : List ℕ → ℕ → List ℕ → Bool
-is_labelled label most t = bytes_eq (take (length label) t) label && is_number most (drop (length label) t)
-
--- numbers of at most a greatest value, behind a label
-abbrev pub labelled_form : List ℕ → ℕ → Form ℕ
-labelled_form label most = record { text = labelled_text label; Fits = λ n. n ≤ most; has = is_labelled label most; is_long = λ t. false }
-
 -- what stands before the first `.`
 abbrev pub before_dot : List ℕ → List ℕ
 before_dot [] = []
@@ -54,24 +42,9 @@ sent_form = record {
   is_long = λ t. false;
 }
 
--- a picked context, or none where all were in use at some member
-abbrev pub picked_form : Form (Option ℕ)
-picked_form = word_or (codes "exhausted") (labelled_form (codes "ctx=") most_16)
-
 -- a rank in a group, or none where the caller is no member
 abbrev pub own_rank_form : Form (Option ℕ)
 own_rank_form = word_or (codes "undefined") (number_form most_16)
-
-abbrev pub all_classes : List ErrClass
-all_classes = class.Session ∷ class.Group ∷ class.Comm ∷ class.Rank ∷ class.Tag ∷ class.Arg ∷ class.Request ∷ class.Truncate ∷ class.Busy ∷ class.Exhausted ∷ []
-
--- the class with this text, if there is one
-abbrev pub class_in : List ℕ → Option ErrClass
-class_in text = find (λ c. bytes_eq (text_of_lem c) text) all_classes
-
--- error classes
-abbrev pub class_form : Form ErrClass
-class_form = record { text = text_of_lem; Fits = λ c. Unit {0}; has = λ t. is_some (class_in t); is_long = λ t. false }
 
 -- the one token of what a packet says of a round
 abbrev pub round_text : Said → List ℕ
@@ -85,17 +58,10 @@ round_text Shared = codes "shared"
 
 -- what a packet may say of a round
 abbrev pub IsRoundSaid : Said → Type 0
+IsRoundSaid Own = ⊥
+IsRoundSaid Zero = ⊥
 IsRoundSaid Ready = Unit {0}
 IsRoundSaid Retry = Unit {0}
 IsRoundSaid (Picked c) = c ≤ most_16
 IsRoundSaid Exhausted = Unit {0}
-IsRoundSaid _ = ⊥
-
--- what a packet says of a round
-abbrev pub round_form : Form Said
-round_form = record {
-  text = round_text;
-  Fits = IsRoundSaid;
-  has = λ t. bytes_eq t (codes "ready") || (bytes_eq t (codes "retry") || (bytes_eq t (codes "exhausted") || is_labelled (codes "ctx=") most_16 t));
-  is_long = λ t. false;
-}
+IsRoundSaid Shared = ⊥

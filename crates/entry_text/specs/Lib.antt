@@ -1,8 +1,10 @@
 pub mod Words
 pub mod Labels
+pub mod LabelForms
 pub mod Grammar
 pub mod Parts
 pub mod Keys
 pub mod Said
 pub mod Briefs
 pub mod Replies
+pub mod Reading

@@ -9,12 +9,8 @@ use Rattle.mpi_base.specs.declared.messages.Matched.{Matched}
 use Rattle.mpi_base.specs.declared.replies.Reply.{Reply}
 use Rattle.mpi_base.specs.declared.replies.Reply.TheVariants.{Fine, Refused, Null, Psets, NthName, Size0, Group, Ranks, Like, Size, Rank, Comm, Received}
 use Rattle.token_text.specs.Texts.{hex_form}
-use Rattle.token_text.specs.Words.{FitsIf}
-use Rattle.script_text.specs.Reads.{Ahead}
 use Rattle.token_text.specs.Lists.{rank_outs_form, members_form}
 use Rattle.entry_text.specs.Labels.{most_16, most_32, most_64, labelled_text, sent_form, own_rank_form}
-use Rattle.entry_text.specs.Grammar.{branch, reply, source, sized, source_pieces, bytes_piece, match_pieces}
-use Rattle.entry_text.specs.Parts.{Part, Stops, Opens}
 
 abbrev pub like_text : Likeness → List ℕ
 like_text like.Ident = codes "ident"
@@ -74,48 +70,9 @@ IsReply (Rank r) = own_rank_form.Fits r
 IsReply (Comm c r s) = (c ≤ most_16) × (r ≤ most_16) × (s ≤ most_16)
 IsReply (Received s t bytes) = IsMessage s t bytes
 
--- what a received message shows behind its word
-abbrev pub received_tokens : Reply → List (List ℕ)
-received_tokens (Received s t bytes) = message_tokens s t bytes
-received_tokens _ = []
-
-abbrev pub IsReceived : Reply → Type 0
-IsReceived (Received s t bytes) = IsMessage s t bytes
-IsReceived _ = ⊥
-
--- replies
-abbrev pub reply_part : Part Reply
-reply_part = record { pieces = branch reply ∷ []; tokens = reply_tokens; Fits = IsReply }
-
--- the source of a message, and what it opens
-abbrev pub ReadsSource : Ahead → Ahead → Option (Option ℕ) → Type 0
-ReadsSource old new (Some s) = FitsIf (λ n. n ≤ most_16) s × Opens (source ∷ []) (source_pieces s) (source_text s) old new
-ReadsSource old new None = Stops (source ∷ []) old
-
--- a number of bytes, and what it opens
-abbrev pub ReadsLen : Ahead → Ahead → Option ℕ → Type 0
-ReadsLen old new (Some n) = Opens (sized ∷ []) (bytes_piece n ∷ []) (labelled_text (codes "len=") n) old new
-ReadsLen old new None = Stops (sized ∷ []) old
-
--- so many bytes
-abbrev pub bytes_part : ℕ → Part (List ℕ)
-bytes_part n = record { pieces = bytes_piece n ∷ []; tokens = λ bs. hex_form.text bs ∷ []; Fits = λ bs. (length bs ≡ n) × hex_form.Fits bs }
-
--- how many bytes, and the bytes
-abbrev pub sized_part : Part (List ℕ)
-sized_part = record { pieces = sized ∷ []; tokens = λ bs. labelled_text (codes "len=") (length bs) ∷ hex_form.text bs ∷ []; Fits = hex_form.Fits }
-
--- what a received message shows
-abbrev pub message_part : Part Reply
-message_part = record { pieces = source ∷ []; tokens = received_tokens; Fits = IsReceived }
-
 -- which receive took which message of which rank
 abbrev pub match_tokens : Matched → List (List ℕ)
 match_tokens m = codes "match" ∷ decimal m.receive ∷ sent_form.text (m.from, m.number) ∷ []
 
 abbrev pub IsMatched : Matched → Type 0
 IsMatched m = (m.receive ≤ most_64) × (m.from ≤ most_16) × (m.number ≤ most_64)
-
--- matches
-abbrev pub match_part : Part Matched
-match_part = record { pieces = match_pieces; tokens = match_tokens; Fits = IsMatched }

@@ -1,14 +1,10 @@
 -- What offers and settles say, as a line shows it.
-use Rattle.std.specs.Prelude.{◌≡◌, ℕ, ◌≤◌, Bool, true, false, List, [], ◌∷◌, ◌++◌, codes}
+use Rattle.std.specs.Prelude.{◌≡◌, ℕ, ◌≤◌, Bool, true, false, List, [], ◌∷◌, codes}
 use Rattle.mpi_base.specs.declared.keys.Kind.{Kind}
 use Rattle.mpi_base.specs.declared.keys.Kind.TheVariants as kind
-use Rattle.mpi_base.specs.declared.keys.Key.{Key}
 use Rattle.mpi_base.specs.declared.entries.Said.{Said}
 use Rattle.mpi_base.specs.declared.entries.Said.TheVariants.{Own, Zero, Ready, Retry, Picked, Exhausted, Shared}
 use Rattle.entry_text.specs.Labels.{most_16, labelled_text}
-use Rattle.entry_text.specs.Grammar.{branch, owning, verdict, settled, said_pieces}
-use Rattle.entry_text.specs.Keys.{IsKey, key_tokens}
-use Rattle.entry_text.specs.Parts.{Part}
 
 -- the tokens of what is said
 abbrev pub said_tokens : Said → List (List ℕ)
@@ -24,15 +20,21 @@ said_tokens Shared = codes "shared" ∷ []
 abbrev pub IsOffered : Said → Type 0
 IsOffered Own = Unit {0}
 IsOffered Zero = Unit {0}
-IsOffered _ = ⊥
+IsOffered Ready = ⊥
+IsOffered Retry = ⊥
+IsOffered (Picked c) = ⊥
+IsOffered Exhausted = ⊥
+IsOffered Shared = ⊥
 
 -- what is said of a key that is no exchange
 abbrev pub IsVerdict : Said → Type 0
+IsVerdict Own = ⊥
+IsVerdict Zero = ⊥
 IsVerdict Ready = Unit {0}
 IsVerdict Retry = Unit {0}
 IsVerdict (Picked c) = c ≤ most_16
 IsVerdict Exhausted = Unit {0}
-IsVerdict _ = ⊥
+IsVerdict Shared = ⊥
 
 -- an exchange is shared, and a key of another kind gets a verdict
 abbrev pub IsSettled : Kind → Said → Type 0
@@ -46,21 +48,3 @@ IsSettled kind.Share s = s ≡ Shared
 abbrev pub owning_said : Bool → Said
 owning_said true = Own
 owning_said false = Zero
-
-abbrev pub owning_part : Part Bool
-owning_part = record { pieces = branch owning ∷ []; tokens = λ own. said_tokens (owning_said own); Fits = λ own. Unit {0} }
-
-abbrev pub verdict_part : Part Said
-verdict_part = record { pieces = branch verdict ∷ []; tokens = said_tokens; Fits = IsVerdict }
-
--- what is said where a key of a kind is settled, behind its mark
-abbrev pub said_part : Kind → Part Said
-said_part kind = record { pieces = said_pieces kind; tokens = λ s. codes "#" ∷ said_tokens s; Fits = IsSettled kind }
-
--- a key that is settled, and what is said of it
-abbrev pub settled_part : Part (Key × Said)
-settled_part = record {
-  pieces = branch settled ∷ [];
-  tokens = λ p. key_tokens p.0 ++ codes "#" ∷ said_tokens p.1;
-  Fits = λ p. IsKey p.0 × IsSettled p.0.kind p.1;
-}

@@ -2,7 +2,8 @@
 ghost use Rattle.std.specs.Prelude.{◌≡◌, ◌≤◌, ◌+◌, ◌++◌, ◌∷◌, length};
 ghost use Rattle.entry_text.specs.Labels.{round_text};
 ghost use Rattle.entry_text.specs.Said.{said_tokens, owning_said};
-ghost use Rattle.entry_text.specs.Briefs.{brief_tokens, brief_part};
+ghost use Rattle.entry_text.specs.Briefs.{brief_tokens};
+ghost use Rattle.entry_text.specs.Reading.{brief_part};
 ghost use Rattle.entry_text.specs.Parts.{Reads, Adds};
 
 use crate::keys::{put_key, read_key};

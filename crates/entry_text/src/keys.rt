@@ -1,7 +1,8 @@
 //! Keys of creations, read and written.
 ghost use Rattle.std.specs.Prelude.{◌≡◌, ◌≤◌, ◌+◌, ◌++◌, length};
 ghost use Rattle.script_text.specs.Tokens.{spaced};
-ghost use Rattle.entry_text.specs.Keys.{ReadsKind, key_part, kind_part, numbered_part, parent_tokens, key_tokens};
+ghost use Rattle.entry_text.specs.Keys.{parent_tokens, key_tokens};
+ghost use Rattle.entry_text.specs.Reading.{ReadsKind, key_part, kind_part, numbered_part};
 ghost use Rattle.entry_text.specs.Parts.{Reads, Adds};
 
 use crate::tokens::{members, number, short, tag, word};

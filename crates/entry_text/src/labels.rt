@@ -1,8 +1,9 @@
 //! Tokens that only journals have, read and written.
 ghost use Rattle.std.specs.Prelude.{◌≡◌, ◌≤◌, ◌<◌, ◌+◌, ◌==◌, ◌++◌, ◌∷◌, [], length, find, bytes_eq, position, IfSome, IfNone};
 ghost use Rattle.mpi_base.specs.Classes.{text_of_lem};
-ghost use Rattle.token_text.specs.Forms.{Reads};
-ghost use Rattle.entry_text.specs.Labels.{most_16, labelled_text, labelled_form, before_dot, behind_dot, sent_form, picked_form, own_rank_form, class_form, class_in, round_form};
+ghost use Rattle.token_text.specs.Reading.{Reads};
+ghost use Rattle.entry_text.specs.Labels.{most_16, labelled_text, before_dot, behind_dot, sent_form, own_rank_form};
+ghost use Rattle.entry_text.specs.LabelForms.{labelled_form, picked_form, class_form, class_in, round_form};
 
 use mpi_base::{ErrClass, Said};
 use token_text::{Line, TokenFault, put, put_number, read_number};

@@ -1,6 +1,7 @@
 //! Received messages and matches, read and written.
 ghost use Rattle.std.specs.Prelude.{◌≡◌, ◌≤◌, ◌+◌, length};
-ghost use Rattle.entry_text.specs.Replies.{ReadsSource, ReadsLen, bytes_part, sized_part, message_part, message_tokens, match_part, match_tokens};
+ghost use Rattle.entry_text.specs.Replies.{message_tokens, match_tokens};
+ghost use Rattle.entry_text.specs.Reading.{ReadsSource, ReadsLen, bytes_part, sized_part, message_part, match_part};
 ghost use Rattle.entry_text.specs.Parts.{Reads, Adds};
 
 use crate::labels::{put_labelled, read_labelled};

@@ -1,7 +1,8 @@
 //! Replies, read and written.
 ghost use Rattle.std.specs.Prelude.{◌≡◌, ◌≤◌, ◌+◌, ◌++◌, length};
 ghost use Rattle.entry_text.specs.Labels.{own_rank_form};
-ghost use Rattle.entry_text.specs.Replies.{like_text, reply_tokens, reply_part};
+ghost use Rattle.entry_text.specs.Replies.{like_text, reply_tokens};
+ghost use Rattle.entry_text.specs.Reading.{reply_part};
 ghost use Rattle.entry_text.specs.Parts.{Reads, Adds};
 
 use crate::labels::put_labelled;

@@ -1,6 +1,7 @@
 //! What offers and settles say, read and written.
 ghost use Rattle.std.specs.Prelude.{◌≡◌, ◌≤◌, ◌+◌, length};
-ghost use Rattle.entry_text.specs.Said.{said_tokens, owning_said, owning_part, verdict_part, said_part, settled_part};
+ghost use Rattle.entry_text.specs.Said.{said_tokens, owning_said};
+ghost use Rattle.entry_text.specs.Reading.{owning_part, verdict_part, said_part, settled_part};
 ghost use Rattle.entry_text.specs.Parts.{Reads, Adds};
 
 use crate::keys::{behind_kind, read_kind};

@@ -5,7 +5,8 @@ ghost use Rattle.token_text.specs.Texts.{pset_name_form, tag_form};
 ghost use Rattle.token_text.specs.Lists.{rank_outs_form, members_form};
 ghost use Rattle.script_text.specs.Tokens.{texts};
 ghost use Rattle.entry_text.specs.Words.{word_text};
-ghost use Rattle.entry_text.specs.Labels.{most_8, most_16, most_32, labelled_form, sent_form, picked_form, own_rank_form, class_form, round_form};
+ghost use Rattle.entry_text.specs.Labels.{most_8, most_16, most_32, sent_form, own_rank_form};
+ghost use Rattle.entry_text.specs.LabelForms.{labelled_form, picked_form, class_form, round_form};
 ghost use Rattle.entry_text.specs.Parts.{Reads, ReadsWord, ReadsEnd, one_token, text_part};
 
 use crate::labels::{read_class, read_labelled, read_own_rank, read_picked, read_round, read_sent};

@@ -4,7 +4,8 @@ use Rattle.std.specs.List.{All, AllByRecursion}
 use Rattle.std.proofs.lemmas.Bool.Decides.{nat_tests}
 use Rattle.std.proofs.lemmas.List.Elements.{recursion_from_All}
 use Rattle.mpi_base.specs.declared.entries.Entry.{Entry}
-use Rattle.history_text.specs.Text.{entry_text, journal_text, has_line_feed, IsEntry}
+use Rattle.history_text.specs.Text.{entry_text, journal_text, IsEntry}
+use Rattle.history_text.specs.Feeds.{has_line_feed}
 use Rattle.history_text.proofs.PlainEntries.{one_line}
 use Rattle.history_text.proofs.Unique.{one_text}
 

@@ -10,11 +10,11 @@ use Rattle.op_table.proofs.WordFacts.{kind_again, kind_alone}
 use Rattle.token_text.proofs.Exact.{number_exact, int_exact, name_exact, pset_name_exact, tag_exact, hex_exact}
 use Rattle.token_text.proofs.ExactLists.{dest_exact, any_tag_exact, colour_exact, source_exact, ints_exact, rank_args_exact, triplets_exact}
 use Rattle.script_text.specs.Tokens.{Token, texts}
-use Rattle.script_text.specs.Spelling.{Value, field_of, text_of, Fits, kind_of, values_of, tokens_of, IsOp}
+use Rattle.script_text.specs.Spelling.{Value, text_of, Fits, kind_of, values_of, tokens_of, IsOp}
+use Rattle.script_text.specs.Reads.{field_of, Ahead, ReadsOp}
 use Rattle.script_text.specs.Faults.{token_fault, placed, walk}
 use Rattle.script_text.specs.declared.faults.FaultKind.{FaultKind}
 use Rattle.script_text.specs.declared.faults.LineFault.{LineFault}
-use Rattle.script_text.specs.Reads.{Ahead, ReadsOp}
 use Rattle.script_text.proofs.Laws.{AreExact, exact, good_text}
 use Rattle.script_text.proofs.Ops.{same_fields, same_values, same_op}
 use Rattle.entry_text.specs.Grammar.{Row, Piece, branch, field, op, may_end, reply_end, match_end, call_end, fit}

@@ -35,7 +35,8 @@ use Rattle.entry_text.specs.Keys.{kind_text, behind_kind, key_tokens, IsKey}
 use Rattle.entry_text.specs.Said.{said_tokens, IsOffered, IsVerdict, IsSettled}
 use Rattle.entry_text.specs.Briefs.{brief_tokens, IsBrief}
 use Rattle.entry_text.specs.Replies.{message_tokens, reply_tokens, IsMessage, IsReply, IsMatched}
-use Rattle.history_text.specs.Text.{act_text, matched_part, behind_word, entry_tokens, entry_text, has_line_feed, IsAct, HasBrief, HasSaid, HasMatch, HasDropped, HasReply, IsEntry}
+use Rattle.history_text.specs.Text.{act_text, matched_part, behind_word, entry_tokens, entry_text, IsAct, HasBrief, HasSaid, HasMatch, HasDropped, HasReply, IsEntry}
+use Rattle.history_text.specs.Feeds.{has_line_feed}
 use Rattle.history_text.specs.Text as text
 use Rattle.history_text.proofs.Whole.{rest}
 use Rattle.history_text.proofs.Plain.{IsPlain, texts_plain, listed_plain, number_plain, hex_plain, pset_plain, tag_plain, value_plain}

@@ -8,15 +8,16 @@ use Rattle.mpi_base.specs.declared.entries.Said.{Said}
 use Rattle.mpi_base.specs.declared.entries.Said.TheVariants as said
 use Rattle.mpi_base.specs.declared.replies.Reply.{Reply}
 use Rattle.mpi_base.specs.declared.entries.Entry.{Entry}
-use Rattle.token_text.specs.Forms.{IsExact}
+use Rattle.token_text.specs.Reading.{IsExact}
 use Rattle.token_text.specs.Numbers.{number_form}
 use Rattle.token_text.specs.Words.{FitsIf}
 use Rattle.token_text.proofs.Exact.{number_exact}
 use Rattle.entry_text.specs.Labels.{most_8, most_16, most_64}
 use Rattle.entry_text.specs.Grammar.{Piece, branch, number, choice, owning, call_end, match_end, reply_end, fit}
 use Rattle.entry_text.specs.Parts.{Part}
-use Rattle.entry_text.specs.Said.{said_tokens, IsOffered, settled_part}
-use Rattle.entry_text.specs.Replies.{reply_tokens, match_tokens, IsReply, IsMatched, reply_part, match_part}
+use Rattle.entry_text.specs.Said.{said_tokens, IsOffered}
+use Rattle.entry_text.specs.Reading.{settled_part, reply_part, match_part}
+use Rattle.entry_text.specs.Replies.{reply_tokens, match_tokens, IsReply, IsMatched}
 use Rattle.entry_text.specs.declared.words.Word.TheVariants as word
 use Rattle.entry_text.proofs.Fit.{IsSure, fit_token, fit_text, fit_word}
 use Rattle.entry_text.proofs.Sure.{short_exact, long_exact, head_same, tail_same, apart, key_sure, owning_sure}

@@ -1,3 +1,4 @@
 pub mod Text
+pub mod Feeds
 pub mod Steps
 pub mod Ranges

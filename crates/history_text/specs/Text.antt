@@ -1,6 +1,6 @@
 -- The text of an entry, and well-formed entries.
-use Rattle.std.specs.Prelude.{◌≡◌, ℕ, ◌≤◌, ◌==◌, Bool, List, [], ◌∷◌, ◌++◌, Option, Some, None, codes, decimal}
-use Rattle.std.specs.List.{flat_map, list_any}
+use Rattle.std.specs.Prelude.{◌≡◌, ℕ, ◌≤◌, List, [], ◌∷◌, ◌++◌, Option, Some, None, codes, decimal}
+use Rattle.std.specs.List.{flat_map}
 use Rattle.mpi_base.specs.declared.messages.Matched.{Matched}
 use Rattle.mpi_base.specs.declared.entries.Act.{Act}
 use Rattle.mpi_base.specs.declared.entries.Act.TheVariants.{Call, Answer, Deliver, Offer, Settle, Leave, Back}
@@ -73,10 +73,6 @@ entry_text e = in_line (entry_tokens e)
 -- a line for each entry
 abbrev pub journal_text : List Entry → List ℕ
 journal_text es = flat_map (λ e. entry_text e ++ 10 ∷ []) es
-
--- whether a text has a line feed
-abbrev pub has_line_feed : List ℕ → Bool
-has_line_feed text = list_any (λ b. b == 10) text
 
 -- a step whose numbers, operation and key are in their ranges
 abbrev pub IsAct : Act → Type 0

@@ -1,6 +1,7 @@
 //! Entries, read.
 ghost use Rattle.std.specs.Prelude.{◌≡◌, false, List, All, Some, IfSome};
-ghost use Rattle.history_text.specs.Text.{IsEntry, entry_text, journal_text, has_line_feed};
+ghost use Rattle.history_text.specs.Text.{IsEntry, entry_text, journal_text};
+ghost use Rattle.history_text.specs.Feeds.{has_line_feed};
 ghost use Rattle.mpi_base.specs.declared.entries.Entry.{Entry as AnyEntry};
 
 use crate::acts::read_tokens;

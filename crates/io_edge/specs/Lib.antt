@@ -1,4 +1,5 @@
 pub mod Counts
+pub mod InMemory
 pub mod Source
 pub mod Sink
 pub mod States

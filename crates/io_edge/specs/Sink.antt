@@ -1,5 +1,5 @@
 -- What a write does to the bytes that were written to a sink, where it tells them.
-use Rattle.std.specs.Prelude.{◌≡◌, ℕ, ◌≤◌, ◌<◌, ◌==◌, ◌&&◌, nat_lt, Bool, List, length, take, Option}
+use Rattle.std.specs.Prelude.{◌≡◌, ℕ, ◌≤◌, ◌<◌, List, length, take, Option}
 use Rattle.std.specs.Io.KnownBytes.{append_known}
 
 -- the bytes written after are those before and then the taken ones; who does not tell the ones does not tell the others
@@ -13,7 +13,3 @@ TakesFront before piece after = (k : ℕ) × (k ≤ length piece) × Takes befor
 -- of a piece that is not empty something was taken
 abbrev pub TakesSomething : List ℕ → ℕ → Type 0
 TakesSomething piece n = 0 < length piece → 0 < n
-
--- whether a sink with so much room can take nothing of the piece, which is not empty
-abbrev pub lacks_room : ℕ → List ℕ → Bool
-lacks_room room piece = (room == 0) && nat_lt 0 (length piece)

@@ -1,7 +1,8 @@
 //! A sink that keeps its bytes in memory.
 ghost use Rattle.std.specs.Prelude.{◌≡◌, ◌≤◌, ◌-◌, ◌||◌, min, max, length, take, Some, is_ok, is_err, false, [], IsOk, IfOk, OnOk, OnErr};
-ghost use Rattle.io_edge.specs.Counts.{Rose, next_count, names_call};
-ghost use Rattle.io_edge.specs.Sink.{Takes, TakesFront, TakesSomething, lacks_room};
+ghost use Rattle.io_edge.specs.Counts.{Rose};
+ghost use Rattle.io_edge.specs.InMemory.{next_count, names_call, lacks_room};
+ghost use Rattle.io_edge.specs.Sink.{Takes, TakesFront, TakesSomething};
 
 use crate::plan::FaultPlan;
 use crate::traits::{Failed, Sink};

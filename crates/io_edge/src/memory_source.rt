@@ -1,6 +1,7 @@
 //! A source over bytes in memory.
 ghost use Rattle.std.specs.Prelude.{◌≡◌, ◌≤◌, min, length, take, drop, Some, is_err, IfOk, OnOk, OnErr};
-ghost use Rattle.io_edge.specs.Counts.{Rose, next_count, names_call};
+ghost use Rattle.io_edge.specs.Counts.{Rose};
+ghost use Rattle.io_edge.specs.InMemory.{next_count, names_call};
 ghost use Rattle.io_edge.specs.Source.{Gives, EndsAtNothing};
 
 use crate::filling::fill;

@@ -1,6 +1,6 @@
 //! Which calls of a source or a sink in memory fail, and what was counted.
 ghost use Rattle.std.specs.Prelude.{◌≡◌, if◌then◌else◌, is_err};
-ghost use Rattle.io_edge.specs.Counts.{next_count, names_call};
+ghost use Rattle.io_edge.specs.InMemory.{next_count, names_call};
 
 use crate::traits::Failed;
 

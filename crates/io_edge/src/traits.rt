@@ -4,9 +4,21 @@ ghost use Rattle.io_edge.specs.Counts.{Rose};
 ghost use Rattle.io_edge.specs.Source.{Gives, EndsAtNothing};
 ghost use Rattle.io_edge.specs.Sink.{Takes, TakesFront, TakesSomething};
 
+use std::error::Error;
+use std::fmt;
+
 /// A call to the outside failed. The source or the sink has counted the fault.
 #[derive(Clone, Copy, Debug, PartialEq, Eq, Drop)]
 pub struct Failed;
+
+impl fmt::Display for Failed {
+    /// Writes that a read or a write failed.
+    fn fmt<W: fmt::Write>(&self, f: &mut fmt::Formatter<W>) -> fmt::Result {
+        f.write_str("a read or a write failed")
+    }
+}
+
+impl Error for Failed {}
 
 /// Where bytes come from.
 ///

@@ -17,7 +17,8 @@ use Rattle.token_text.specs.declared.faults.TokenFault.{TokenFault}
 use Rattle.token_text.specs.Forms.{fault_of}
 use Rattle.token_text.specs.Texts.{pset_name_form}
 use Rattle.job_file.specs.Keys.{first_failing}
-use Rattle.job_file.specs.ConfiguredSets.{one_more, number_in, ranks_behind, ranks_in, set_in_front, sets_in, is_set_name, is_set, AddsSet, AscendByBytes}
+use Rattle.job_file.specs.ConfiguredSets.{one_more, number_in, ranks_behind, ranks_in, set_in_front, sets_in, is_set_name, is_set, AscendByBytes}
+use Rattle.job_file.specs.AddingSets.{AddsSet}
 
 -- nothing follows a fault
 pub ranks_none : (ranks : ℕ) (ds : Items) → ranks_behind ranks None ds ≡ None

@@ -1,5 +1,5 @@
 -- The process sets that a job adds to the two that are always there.
-use Rattle.std.specs.Prelude.{◌≡◌, ℕ, nat_lt, ◌&&◌, ◌==◌, not, Bool, if◌then◌else◌, List, [], ◌∷◌, ◌++◌, codes, Option, Some, None, is_some, is_none, option_and_then}
+use Rattle.std.specs.Prelude.{ℕ, nat_lt, ◌&&◌, ◌==◌, not, Bool, if◌then◌else◌, List, [], ◌∷◌, ◌++◌, codes, Option, Some, None, is_some, is_none, option_and_then}
 use Rattle.std.specs.List.{starts_with}
 use Rattle.std.specs.List.Sorted.{IsStrictlySortedBy}
 use Rattle.std.specs.Ordering.{nat_cmp}
@@ -71,11 +71,3 @@ all_sets ranks ms = record { ranks = ranks; sets = first_sets ranks ++ sets_in r
 -- names that ascend by their bytes
 abbrev pub AscendByBytes : List NamedSet → Type 0
 AscendByBytes sets = IsStrictlySortedBy (slice_cmp nat_cmp) (names sets)
-
--- a set was added at the end, if the value lists ranks
-abbrev pub AddsSet : List ℕ → Data → ProcessSets → ProcessSets → Type 0
-AddsSet k d old new = new ≡ record { ranks = old.ranks; sets = old.sets ++ set_in_front k (ranks_in old.ranks d) [] }
-
--- the sets of a table were added at the end
-abbrev pub AddsSets : Members → ProcessSets → ProcessSets → Type 0
-AddsSets ms old new = new ≡ record { ranks = old.ranks; sets = old.sets ++ sets_in old.ranks ms }

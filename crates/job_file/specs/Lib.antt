@@ -2,7 +2,9 @@ pub mod Lines
 pub mod Keys
 pub mod Chains
 pub mod Top
+pub mod Given
 pub mod ConfiguredSets
+pub mod AddingSets
 pub mod Threads
 pub mod Adding
 pub mod Jobs

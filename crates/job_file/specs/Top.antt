@@ -2,7 +2,7 @@
 use Rattle.std.specs.Prelude.{ℕ, ℤ, pos, negsuc, nat_le, ◌&&◌, Bool, true, false, Option, Some, None, is_some}
 use Rattle.mpi_base.specs.declared.members.TheConstants.{MOST_RANKS}
 use Rattle.mpi_law.specs.declared.setting.TheConstants.{MOST_CONTEXTS}
-use Rattle.toml.specs.Data.{Data, string, integer, array, table, as_table, Items, no_items, item, Members, no_members}
+use Rattle.toml.specs.Data.{Data, string, integer, float, boolean, datetime, array, table, as_table, Items, no_items, item, Members, no_members}
 use Rattle.job_file.specs.declared.keys.TopKey.{TopKey}
 use Rattle.job_file.specs.declared.keys.TopKey.TheVariants.{Format, Ranks, Contexts, Psets, Scripts}
 use Rattle.job_file.specs.declared.faults.JobFault.{JobFault}
@@ -30,17 +30,32 @@ all_items test no_items = true
 all_items test (item d ds) = test d && all_items test ds
 
 abbrev pub is_integer : Data → Bool
+is_integer (string s) = false
 is_integer (integer z) = true
-is_integer _ = false
+is_integer (float x) = false
+is_integer (boolean b) = false
+is_integer (datetime t) = false
+is_integer (array ds) = false
+is_integer (table ms) = false
 
 abbrev pub is_string : Data → Bool
 is_string (string s) = true
-is_string _ = false
+is_string (integer z) = false
+is_string (float x) = false
+is_string (boolean b) = false
+is_string (datetime t) = false
+is_string (array ds) = false
+is_string (table ms) = false
 
 -- an array of integers
 abbrev pub is_integer_array : Data → Bool
+is_integer_array (string s) = false
+is_integer_array (integer z) = false
+is_integer_array (float x) = false
+is_integer_array (boolean b) = false
+is_integer_array (datetime t) = false
 is_integer_array (array ds) = all_items is_integer ds
-is_integer_array _ = false
+is_integer_array (table ms) = false
 
 -- the value at a key is an integer, if there is one
 abbrev pub number_kind : Members → TopKey → Option JobFault
@@ -72,8 +87,14 @@ natural (negsuc n) = None
 
 -- the number that a value is, or this one where there is none
 abbrev pub number_or : ℕ → Option Data → Option ℕ
+number_or missing None = Some missing
+number_or missing (Some (string s)) = Some missing
 number_or missing (Some (integer z)) = natural z
-number_or missing _ = Some missing
+number_or missing (Some (float x)) = Some missing
+number_or missing (Some (boolean b)) = Some missing
+number_or missing (Some (datetime t)) = Some missing
+number_or missing (Some (array ds)) = Some missing
+number_or missing (Some (table ms)) = Some missing
 
 abbrev pub is_in_range : ℕ → ℕ → Option ℕ → Bool
 is_in_range low high None = false
@@ -102,16 +123,17 @@ contexts_of ms = or_zero (number_or MOST_CONTEXTS (at ms Contexts))
 
 -- the members of a table, and none where there is none
 abbrev pub table_or_none : Option Data → Members
+table_or_none None = no_members
+table_or_none (Some (string s)) = no_members
+table_or_none (Some (integer z)) = no_members
+table_or_none (Some (float x)) = no_members
+table_or_none (Some (boolean b)) = no_members
+table_or_none (Some (datetime t)) = no_members
+table_or_none (Some (array ds)) = no_members
 table_or_none (Some (table ms)) = ms
-table_or_none _ = no_members
 
 abbrev pub psets_of : Members → Members
 psets_of ms = table_or_none (at ms Psets)
 
 abbrev pub scripts_of : Members → Members
 scripts_of ms = table_or_none (at ms Scripts)
-
--- the same of a table that was found
-abbrev pub members_or_none : Option Members → Members
-members_or_none None = no_members
-members_or_none (Some ms) = ms

@@ -2,7 +2,7 @@
 
 use crate::faults::JobFault;
 use crate::keys::{KeyText, TopKey};
-use script_text::{FaultKind, LineFault};
+use script_text::LineFault;
 use std::error::Error;
 use std::fmt;
 
@@ -14,19 +14,6 @@ fn kind_text(key: TopKey, is_entry: bool) -> &'static str {
         TopKey::Scripts if is_entry => "a string",
         TopKey::Scripts => "a table of strings",
         TopKey::Format | TopKey::Ranks | TopKey::Contexts => "an integer",
-    }
-}
-
-/// A fault of a line, with what is wanted in its place.
-fn line_text(kind: FaultKind) -> &'static str {
-    match kind {
-        FaultKind::UnknownWord => "unknown word",
-        FaultKind::Missing => "the line ends where one more word is wanted",
-        FaultKind::BadName => "a name, a process set or a string is wanted",
-        FaultKind::BadNumber => "a number in its range, or a list of numbers, is wanted",
-        FaultKind::BadHex => "an even number of hexadecimal digits, or - for no bytes, is wanted",
-        FaultKind::TooLong => "too long",
-        FaultKind::Extra => "the end of the line is wanted",
     }
 }
 
@@ -76,8 +63,7 @@ fn write_line<W: fmt::Write>(
     line: u32,
     fault: &LineFault,
 ) -> fmt::Result {
-    let (column, text) = (fault.column, line_text(fault.kind));
-    write!(f, ", line {line}, column {column}: {text}")
+    write!(f, ", line {line}, {fault}")
 }
 
 impl fmt::Display for JobFault {

@@ -6,7 +6,7 @@ ghost use Rattle.mpi_law.specs.ScriptLists.{total_of};
 ghost use Rattle.toml.specs.View.{view, table_view};
 ghost use Rattle.job_file.specs.Lines.{lines_of, first_fault as first_fault_of, line_fault as line_fault_of};
 ghost use Rattle.job_file.specs.Keys.{first_failing};
-ghost use Rattle.job_file.specs.Top.{members_or_none};
+ghost use Rattle.job_file.specs.Given.{members_or_none};
 ghost use Rattle.job_file.specs.Threads as spec;
 ghost use Rattle.job_file.specs.Adding.{AddsLines};
 ghost use Rattle.job_file.specs.Jobs.{AreScripts};

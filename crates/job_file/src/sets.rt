@@ -9,8 +9,9 @@ ghost use Rattle.toml.specs.View.{view, table_view, items_view};
 ghost use Rattle.token_text.specs.Forms.{fault_of};
 ghost use Rattle.token_text.specs.Texts.{pset_name_form};
 ghost use Rattle.job_file.specs.Keys.{first_failing};
-ghost use Rattle.job_file.specs.Top.{members_or_none};
+ghost use Rattle.job_file.specs.Given.{members_or_none};
 ghost use Rattle.job_file.specs.ConfiguredSets as spec;
+ghost use Rattle.job_file.specs.AddingSets.{AddsSet, AddsSets};
 
 use crate::faults::JobFault;
 use crate::keys::KeyText;
@@ -152,7 +153,7 @@ fn keys_ascend(table: &Table)
 fn add_sets(psets: &mut Psets, table: &Table) -> Result<(), OutOfMemory>
     requires start { psets.old ≡ start_of psets.old.ranks }
     requires good { first_failing (spec.is_set psets.old.ranks) (table_view table.now) ≡ None }
-    ensures sets { OnOk result (spec.AddsSets (table_view table.now) psets.old psets.new) }
+    ensures sets { OnOk result (AddsSets (table_view table.now) psets.old psets.new) }
 {
     keys_ascend(table);
     'members: for (name, value) in table.iter() {
@@ -165,7 +166,7 @@ fn add_sets(psets: &mut Psets, table: &Table) -> Result<(), OutOfMemory>
 fn add_set(psets: &mut Psets, name: &str, value: &Value) -> Result<(), OutOfMemory>
     requires good { spec.is_set psets.old.ranks name.now (view value.now) ≡ true }
     requires new { has_set psets.old.sets name.now ≡ false }
-    ensures added { OnOk result (spec.AddsSet name.now (view value.now) psets.old psets.new) }
+    ensures added { OnOk result (AddsSet name.now (view value.now) psets.old psets.new) }
     ensures ranks { psets.new.ranks ≡ psets.old.ranks }
 {
     if psets.size() == MOST_SETS {

@@ -4,6 +4,7 @@ ghost use Rattle.toml.specs.Data.{get_member};
 ghost use Rattle.toml.specs.View.{view, table_view, items_view};
 ghost use Rattle.job_file.specs.Keys.{at, is_top_key as is_top_key_of, first_failing};
 ghost use Rattle.job_file.specs.Top as spec;
+ghost use Rattle.job_file.specs.Given.{members_or_none};
 
 use crate::faults::JobFault;
 use crate::keys::{KeyText, TopKey};
@@ -256,7 +257,7 @@ pub(crate) fn contexts(table: &Table) -> u16
 
 /// The table at a key, if there is one.
 pub(crate) fn table_at<'a>(table: &'a Table, key: TopKey) -> Option<&'a Table>
-    ensures { spec.members_or_none (option_map (λ t. table_view t.now) result) ≡ spec.table_or_none (at (table_view table.now) key) }
+    ensures { members_or_none (option_map (λ t. table_view t.now) result) ≡ spec.table_or_none (at (table_view table.now) key) }
 {
     match value_at(table, key) {
         None => None,

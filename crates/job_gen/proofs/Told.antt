@@ -5,7 +5,7 @@ use Rattle.std.specs.Str.Parse.{digits_value}
 use Rattle.std.proofs.lemmas.Fmt.{decimal_is_IsNumeral}
 use Rattle.token_text.specs.declared.faults.TokenFault.{TokenFault}
 use Rattle.token_text.specs.declared.faults.TokenFault.TheVariants.{NotOfForm}
-use Rattle.token_text.specs.Forms.{Reads}
+use Rattle.token_text.specs.Reading.{Reads}
 use Rattle.token_text.specs.Numbers.{is_number, number_form}
 use Rattle.job_gen.specs.Words.{told_by}
 

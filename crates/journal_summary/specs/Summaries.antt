@@ -1,6 +1,5 @@
 -- The summary of a journal, this project's own: counts of its entries, and their text.
 use Rattle.std.specs.Prelude.{ℕ, ◌+◌, Bool, true, false, List, ◌++◌, length, count_by, sum_by, Option, Some, None, is_some, unwrap_or, codes, decimal}
-use Rattle.std.specs.Int.{from_bool}
 use Rattle.mpi_base.specs.declared.entries.Act.{Act}
 use Rattle.mpi_base.specs.declared.entries.Act.TheVariants.{Call, Answer, Deliver, Offer, Settle, Leave, Back}
 use Rattle.mpi_base.specs.declared.entries.Said.{Said}
@@ -89,18 +88,6 @@ summary_of es = record {
   matches = count_by (λ e. is_some e.matched) es;
   retries = count_by (λ e. settles is_retry (settled e)) es;
   dropped = sum_by dropped_in es;
-}
-
--- with one entry more
-abbrev pub with_entry : Summary → Entry → Summary
-with_entry s e = record {
-  ops = s.ops + from_bool (is_call e);
-  steps = s.steps + 1;
-  picks = s.picks + from_bool (settles is_pick (settled e));
-  exhausted = s.exhausted + from_bool (settles is_exhausted (settled e));
-  matches = s.matches + from_bool (is_some e.matched);
-  retries = s.retries + from_bool (settles is_retry (settled e));
-  dropped = s.dropped + dropped_in e;
 }
 
 -- its text: one line

@@ -1,6 +1,7 @@
 //! Counts of a journal's entries.
 ghost use Rattle.std.specs.Prelude.{◌≡◌, ◌+◌, ◌-◌, ◌*◌, ◌<◌, ◌≤◌, ◌^◌, []};
-ghost use Rattle.journal_summary.specs.Summaries.{summary_of, with_entry, is_call, settled};
+ghost use Rattle.journal_summary.specs.Summaries.{summary_of, is_call, settled};
+ghost use Rattle.journal_summary.specs.Counting.{with_entry};
 
 use mpi_base::{Act, Entry, Said};
 

@@ -1,16 +1,15 @@
 -- What was read at most, and that the calls of a journal are well formed.
-use Rattle.std.proofs.Common.{◌≡◌, ℕ, ◌+◌, ◌<◌, ◌≤◌, Bool, true, false, List, [], ◌∷◌, ◌++◌, length, take, drop, Option, Some, None, Result, Ok, Err, IfOk, refl, sym, ap, ◌∙◌, subst, append_assoc, length-append, arith}
+use Rattle.std.proofs.Common.{◌≡◌, ℕ, ◌+◌, ◌≤◌, List, [], ◌∷◌, ◌++◌, length, drop, Option, Some, None, Result, Ok, Err, IfOk, refl, sym, ap, ◌∙◌, subst, append_assoc, length-append, arith}
 use Rattle.std.specs.Io.KnownBytes.{prepend_known}
 use Rattle.std.specs.Prelude.{All}
 use Rattle.std.proofs.lemmas.List.Elements.{All-take}
 use Rattle.mpi_base.specs.declared.entries.Entry.{Entry}
 use Rattle.script_text.specs.Spelling.{IsOp}
 use Rattle.mpi_law.specs.declared.setting.Setting.{Setting}
-use Rattle.mpi_law.specs.declared.setting.TheConstants.{THREADS}
 use Rattle.mpi_law.specs.ScriptLists.{AllScripts, script_of}
 use Rattle.mpi_protocol.specs.Rank.{thread_at}
 use Rattle.mpi_protocol.specs.World.{rank_at}
-use Rattle.mpi_protocol.specs.Run.{end_of, calls_of}
+use Rattle.mpi_protocol.specs.Run.{end_of}
 use Rattle.script_law.specs.Called.{AreOfScripts}
 use Rattle.entry_law.specs.Calls.{CallsAreOps}
 use Rattle.job_file.specs.declared.job.Job.{Job}

@@ -13,9 +13,10 @@ use Rattle.mpisess.specs.Commands.{reads}
 use Rattle.mpisess.specs.declared.status.Status.TheVariants.{TooLong, Memory}
 use Rattle.mpisess.specs.declared.status.Stop.{Stop}
 use Rattle.mpisess.specs.declared.status.Stop.TheVariants as stop
-use Rattle.mpisess.specs.Input.{ReadsFront, ReadsAll, ReadsWhole, TellsLong}
+use Rattle.mpisess.specs.Input.{ReadsAll, TellsLong}
+use Rattle.mpisess.specs.Reading.{ReadsFront, ReadsWhole}
 use Rattle.mpisess.specs.Jobs.{IsSoloJob, IsJobOf, IsFaultOf, TellsJob, TellsFault}
-use Rattle.mpisess.specs.Statuses.{stop_status, stop_fault, stop_of_job}
+use Rattle.mpisess.specs.Stops.{stop_status, stop_fault, stop_of_job}
 
 -- of an input that is not too long all was read
 whole : (most : ℕ) (xs bytes : List ℕ) → bytes ≡ take most xs → length xs < most → bytes ≡ xs

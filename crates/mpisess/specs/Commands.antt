@@ -1,9 +1,8 @@
 -- The command that the words of the command line name.
-use Rattle.std.specs.Prelude.{◌≤◌, if◌then◌else◌, ℕ, Bool, true, false, List, [], ◌∷◌, String, string_bytes, bytes_eq, codes, Option, Some, None}
+use Rattle.std.specs.Prelude.{if◌then◌else◌, ℕ, Bool, true, false, List, [], ◌∷◌, String, string_bytes, bytes_eq, codes, Option, Some, None}
 use Rattle.std.specs.declared.alloc.Global.{Global}
 use Rattle.mpisess.specs.declared.command.Command.{Command}
 use Rattle.mpisess.specs.declared.command.Command.TheVariants.{Serial, Solo, Gen}
-use Rattle.job_gen.specs.declared.job.TheConstants.{LEAST_OPS, MOST_OPS}
 use Rattle.job_gen.specs.Words.{told_by}
 
 abbrev pub named_by : List ℕ → Option Command
@@ -31,9 +30,3 @@ reads (Gen number ops) = false
 abbrev pub are_reading : Option Command → Bool
 are_reading None = false
 are_reading (Some command) = reads command
-
--- the operations of a generated job are as many as it may be allowed
-abbrev pub IsInRange : Command → Type 0
-IsInRange Serial = Unit {0}
-IsInRange Solo = Unit {0}
-IsInRange (Gen number ops) = (LEAST_OPS ≤ ops) × (ops ≤ MOST_OPS)

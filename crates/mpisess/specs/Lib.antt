@@ -1,6 +1,8 @@
 pub mod Input
+pub mod Reading
 pub mod Commands
 pub mod Jobs
 pub mod Statuses
+pub mod Stops
 pub mod Idle
 pub mod Outputs

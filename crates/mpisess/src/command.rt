@@ -1,6 +1,7 @@
 //! The commands of the program.
 ghost use Rattle.std.specs.Prelude.{◌≡◌, IfSome};
-ghost use Rattle.mpisess.specs.Commands.{named_by, generated_by, command_of, IsInRange};
+ghost use Rattle.mpisess.specs.Commands.{named_by, generated_by, command_of};
+ghost use Rattle.mpisess.specs.Reading.{IsInRange};
 ghost use Rattle.job_gen.specs.Words.{told_by};
 
 use job_gen::read_words;

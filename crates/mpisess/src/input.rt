@@ -1,7 +1,8 @@
 //! The input of the program: all bytes of a source, up to a limit.
 ghost use Rattle.std.specs.Prelude.{◌≡◌, ◌≤◌, ◌+◌, true, Err, length, is_some, IfOk, OnOk};
 ghost use Rattle.io_edge.specs.Counts.{Rose};
-ghost use Rattle.mpisess.specs.Input.{ReadsFront, ReadsWhole, ReadsAll, ReadsAtMost, TellsLong, was_ended};
+ghost use Rattle.mpisess.specs.Input.{ReadsAll, ReadsAtMost, TellsLong};
+ghost use Rattle.mpisess.specs.Reading.{ReadsFront, ReadsWhole, was_ended};
 
 use io_edge::{Failed, Source};
 use std::alloc::{AllocError, Global};

@@ -7,11 +7,13 @@ ghost use Rattle.mpi_law.specs.ScriptLists.{AllScripts};
 ghost use Rattle.projection_law.specs.Premises.{SetsAreOfRanks};
 ghost use Rattle.job_gen.specs.declared.job.TheConstants.{LEAST_OPS, MOST_OPS};
 ghost use Rattle.job_gen.specs.Parts.{IsGenerated};
-ghost use Rattle.mpisess.specs.Commands.{reads, IsInRange};
+ghost use Rattle.mpisess.specs.Commands.{reads};
+ghost use Rattle.mpisess.specs.Reading.{IsInRange};
 ghost use Rattle.job_law.specs.Scripts.{ScriptsAreOps};
 ghost use Rattle.mpisess.specs.Input.{ReadsAll, ReadsAtMost, TellsLong};
 ghost use Rattle.mpisess.specs.Jobs.{IsAlone, IsJobOf, IsFaultOf, IsTold, TellsJob, TellsFault};
-ghost use Rattle.mpisess.specs.Statuses.{stop_status, was_read};
+ghost use Rattle.mpisess.specs.Statuses.{was_read};
+ghost use Rattle.mpisess.specs.Stops.{stop_status};
 
 use crate::command::Command;
 use crate::input::read_input;

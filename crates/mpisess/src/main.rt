@@ -142,16 +142,11 @@ fn tell_waiting(rt: &impl Eprint, entries: &[Entry]) -> io::Result<()> {
 
 /// Says on standard error what went wrong, in words. Who waits where a job ends stuck is said already.
 fn complain(rt: &impl Eprint, status: Status) -> io::Result<()> {
-    let text = match status {
-        Status::Fine | Status::Stuck => return Ok(()),
-        Status::Usage => return rt.eprintln(USAGE),
-        Status::BadJob => "standard input is no job that can be run",
-        Status::ReadFault => "standard input could not be read",
-        Status::WriteFault => "standard output could not be written",
-        Status::TooLong => "standard input has more than 4,194,304 bytes",
-        Status::Memory => "no memory was left",
-    };
-    eprintln!(rt; "mpisess: {text}")
+    match status {
+        Status::Fine | Status::Stuck => Ok(()),
+        Status::Usage => rt.eprintln(USAGE),
+        _ => eprintln!(rt; "mpisess: {status}"),
+    }
 }
 
 /// Says on standard error what is wrong with the job, and where.

@@ -1,10 +1,11 @@
 //! How sessions end.
 ghost use Rattle.std.specs.Prelude.{◌≡◌};
-ghost use Rattle.mpisess.specs.Statuses.{status_number, stop_status, stop_fault};
+ghost use Rattle.mpisess.specs.Stops.{status_number, stop_status, stop_fault};
 
 use crate::input::InputError;
 use job_file::JobFault;
 use mpi_base::OutOfMemory;
+use std::fmt;
 
 /// How a session ended.
 #[derive(Clone, Copy, Debug, PartialEq, Eq, Drop)]
@@ -42,6 +43,22 @@ impl Status {
             Status::TooLong => 6,
             Status::Memory => 7,
         }
+    }
+}
+
+impl fmt::Display for Status {
+    /// Writes how the session ended, in words.
+    fn fmt<W: fmt::Write>(&self, f: &mut fmt::Formatter<W>) -> fmt::Result {
+        f.write_str(match self {
+            Status::Fine => "every script is ended",
+            Status::Usage => "the command line was not understood",
+            Status::BadJob => "standard input is no job that can be run",
+            Status::Stuck => "some thread waits for ever",
+            Status::ReadFault => "standard input could not be read",
+            Status::WriteFault => "standard output could not be written",
+            Status::TooLong => "standard input has more than 4,194,304 bytes",
+            Status::Memory => "no memory was left",
+        })
     }
 }
 
@@ -84,7 +101,7 @@ impl Stop {
 
 impl From<InputError> for Stop {
     ghost use Rattle.std.specs.Prelude.{◌≡◌};
-    ghost use Rattle.mpisess.specs.Statuses.{stop_of_input};
+    ghost use Rattle.mpisess.specs.Stops.{stop_of_input};
 
     ghost from_gives = { λ value stop. stop ≡ stop_of_input value };
 
@@ -99,7 +116,7 @@ impl From<InputError> for Stop {
 
 impl From<JobFault> for Stop {
     ghost use Rattle.std.specs.Prelude.{◌≡◌};
-    ghost use Rattle.mpisess.specs.Statuses.{stop_of_job};
+    ghost use Rattle.mpisess.specs.Stops.{stop_of_job};
 
     ghost from_gives = { λ value stop. stop ≡ stop_of_job value };
 

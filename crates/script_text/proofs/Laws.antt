@@ -1,12 +1,13 @@
 -- Values and their tokens.
 use Rattle.std.proofs.Common.{◌≡◌, true, None, refl, ap}
 use Rattle.std.specs.Option.{option_map}
-use Rattle.token_text.specs.Forms.{IsExact, is_solid}
+use Rattle.token_text.specs.Reading.{IsExact, is_solid}
 use Rattle.token_text.specs.Numbers.{num_form, int_form}
 use Rattle.token_text.specs.Texts.{name_form, pset_name_form, tag_form, hex_form}
 use Rattle.token_text.specs.Words.{dest_form, any_tag_form, colour_form, source_form}
 use Rattle.token_text.specs.Lists.{ints_form, rank_args_form, triplets_form}
-use Rattle.script_text.specs.Spelling.{Value, name, pset, quoted, num, int, hex, list, null_list, triplet_list, arrow, dest, source, tag_or_any, colour, field_of, text_of, Fits}
+use Rattle.script_text.specs.Spelling.{Value, name, pset, quoted, num, int, hex, list, null_list, triplet_list, arrow, dest, source, tag_or_any, colour, text_of, Fits}
+use Rattle.script_text.specs.Reads.{field_of}
 use Rattle.script_text.specs.Faults.{named, token_fault}
 use Rattle.script_text.specs.declared.faults.FaultKind.TheVariants.{BadName, BadNumber, BadHex}
 

@@ -10,7 +10,8 @@ use Rattle.mpi_base.specs.declared.ops.Op.TheVariants.{Session, Finalize, Psets,
 use Rattle.op_table.specs.declared.kinds.OpKind.{OpKind}
 use Rattle.op_table.specs.declared.kinds.OpKind.TheVariants as kind
 use Rattle.op_table.specs.Table.{fields_of}
-use Rattle.script_text.specs.Spelling.{Value, name, pset, quoted, num, int, hex, list, null_list, triplet_list, arrow, dest, source, tag_or_any, colour, field_of, text_of, Fits, kind_of, values_of}
+use Rattle.script_text.specs.Spelling.{Value, name, pset, quoted, num, int, hex, list, null_list, triplet_list, arrow, dest, source, tag_or_any, colour, text_of, Fits, kind_of, values_of}
+use Rattle.script_text.specs.Reads.{field_of}
 use Rattle.script_text.proofs.Laws.{AreExact, same_value}
 
 -- the fields of an operation's kind are those of its values

@@ -6,9 +6,10 @@ use Rattle.op_table.specs.declared.kinds.OpKind.{OpKind}
 use Rattle.op_table.specs.declared.kinds.Field.{Field}
 use Rattle.op_table.specs.Table.{word_text, fields_of, kind_in}
 use Rattle.op_table.proofs.WordFacts.{kind_again, each_kind}
-use Rattle.token_text.specs.Forms.{is_solid}
+use Rattle.token_text.specs.Reading.{is_solid}
 use Rattle.script_text.specs.Tokens.{Token, tokens, texts}
-use Rattle.script_text.specs.Spelling.{Value, text_of, Fits, kind_of, values_of, tokens_of, line_of, IsOp, Spells}
+use Rattle.script_text.specs.Spelling.{Value, text_of, Fits, kind_of, values_of, tokens_of, IsOp, Spells}
+use Rattle.script_text.specs.Writes.{line_of}
 use Rattle.script_text.specs.Faults.{walk, end_fault, fault_among, fault_of}
 use Rattle.script_text.specs.Reads.{Ahead, Stops, ReadsOp}
 use Rattle.script_text.specs.declared.faults.LineFault.{LineFault}

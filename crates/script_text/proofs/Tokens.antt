@@ -2,7 +2,7 @@
 use Rattle.std.proofs.Common.{◌≡◌, ℕ, suc, ◌+◌, ◌==◌, true, false, List, [], ◌∷◌, ◌++◌, length, refl, ap, ◌∙◌, arith}
 use Rattle.std.proofs.lemmas.Bool.Decides.{nat_tests}
 use Rattle.std.specs.List.{AllByRecursion}
-use Rattle.token_text.specs.Forms.{is_solid}
+use Rattle.token_text.specs.Reading.{is_solid}
 use Rattle.script_text.specs.Tokens.{goes_on, onto, tokens, texts, spaced, in_line}
 
 -- a text that is one token between spaces

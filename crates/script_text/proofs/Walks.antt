@@ -5,9 +5,9 @@ use Rattle.std.specs.List.{AllByRecursion}
 use Rattle.op_table.specs.declared.kinds.Field.{Field}
 use Rattle.op_table.specs.declared.kinds.Field.TheVariants.{Arrow}
 use Rattle.script_text.specs.Tokens.{Token, texts}
-use Rattle.script_text.specs.Spelling.{Value, field_of, text_of, Fits}
+use Rattle.script_text.specs.Spelling.{Value, text_of, Fits}
+use Rattle.script_text.specs.Reads.{field_of, Ahead, Took, Stops}
 use Rattle.script_text.specs.Faults.{token_fault, walk}
-use Rattle.script_text.specs.Reads.{Ahead, Took, Stops}
 use Rattle.script_text.specs.declared.faults.FaultKind.{FaultKind}
 use Rattle.script_text.specs.declared.faults.FaultKind.TheVariants.{Missing, UnknownWord}
 use Rattle.script_text.proofs.Laws.{AreExact, good_text}

@@ -3,11 +3,12 @@ use Rattle.std.specs.Prelude.{◌≡◌, ℕ, ◌+◌, ◌<◌, true, false, Lis
 use Rattle.std.specs.List.{AllByRecursion}
 use Rattle.op_table.specs.declared.kinds.OpKind.{OpKind}
 use Rattle.op_table.specs.declared.kinds.Field.{Field}
+use Rattle.op_table.specs.declared.kinds.Field.TheVariants as field
 use Rattle.op_table.specs.Table.{fields_of}
 use Rattle.mpi_base.specs.declared.ops.Op.{Op}
 use Rattle.script_text.specs.declared.faults.LineFault.{LineFault}
 use Rattle.script_text.specs.Tokens.{Token, tokens, goes_on, texts}
-use Rattle.script_text.specs.Spelling.{Value, Fits, text_of, kind_of, values_of}
+use Rattle.script_text.specs.Spelling.{Value, name, pset, quoted, num, int, hex, list, null_list, triplet_list, arrow, dest, source, tag_or_any, colour, Fits, text_of, kind_of, values_of}
 use Rattle.script_text.specs.Faults.{walk}
 
 -- what is ahead of a reader: tokens, and the column behind the last byte
@@ -44,3 +45,20 @@ Reads fs values old new (Err fault) = Stops fs old fault
 abbrev pub ReadsOp : OpKind → Ahead → Ahead → Result Op LineFault → Type 0
 ReadsOp kind old new (Ok op) = (kind_of op ≡ kind) × Took (fields_of kind) (values_of op) old new
 ReadsOp kind old new (Err fault) = Stops (fields_of kind) old fault
+
+-- the field that a value belongs to
+abbrev pub field_of : Value → Field
+field_of (name s) = field.Name
+field_of (pset s) = field.Pset
+field_of (quoted s) = field.Quoted
+field_of (num n) = field.Num
+field_of (int z) = field.Int
+field_of (hex bs) = field.Hex
+field_of (list zs) = field.List
+field_of (null_list rs) = field.NullList
+field_of (triplet_list ps) = field.TripletList
+field_of arrow = field.Arrow
+field_of (dest r) = field.Dest
+field_of (source r) = field.Source
+field_of (tag_or_any t) = field.TagOrAny
+field_of (colour k) = field.Colour

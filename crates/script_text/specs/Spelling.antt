@@ -8,14 +8,12 @@ use Rattle.mpi_base.specs.declared.ops.Op.{Op}
 use Rattle.mpi_base.specs.declared.ops.Op.TheVariants.{Session, Finalize, Psets, Nth, Info, Pset, Union, Intersect, Difference, Incl, Excl, RangeIncl, RangeExcl, Translate, Compare, Size, Rank, Gfree, Create, Dup, Split, CreateGroup, Group, Ccompare, Csize, Crank, Free, Send, Recv, Irecv, Wait, Await}
 use Rattle.op_table.specs.declared.kinds.OpKind.{OpKind}
 use Rattle.op_table.specs.declared.kinds.OpKind.TheVariants as kind
-use Rattle.op_table.specs.declared.kinds.Field.{Field}
-use Rattle.op_table.specs.declared.kinds.Field.TheVariants as field
 use Rattle.op_table.specs.Table.{word_text}
 use Rattle.token_text.specs.Numbers.{num_form, int_form}
 use Rattle.token_text.specs.Texts.{name_form, pset_name_form, tag_form, hex_form}
 use Rattle.token_text.specs.Words.{dest_form, any_tag_form, colour_form, source_form}
 use Rattle.token_text.specs.Lists.{ints_form, rank_args_form, triplets_form}
-use Rattle.script_text.specs.Tokens.{words, in_line}
+use Rattle.script_text.specs.Tokens.{words}
 
 -- what stands in one place of a line
 pub data Value : Type 0 where
@@ -33,23 +31,6 @@ pub data Value : Type 0 where
   source : SrcArg → Value
   tag_or_any : Option ℕ → Value
   colour : Option ℤ → Value
-
--- the field that a value belongs to
-abbrev pub field_of : Value → Field
-field_of (name s) = field.Name
-field_of (pset s) = field.Pset
-field_of (quoted s) = field.Quoted
-field_of (num n) = field.Num
-field_of (int z) = field.Int
-field_of (hex bs) = field.Hex
-field_of (list zs) = field.List
-field_of (null_list rs) = field.NullList
-field_of (triplet_list ps) = field.TripletList
-field_of arrow = field.Arrow
-field_of (dest r) = field.Dest
-field_of (source r) = field.Source
-field_of (tag_or_any t) = field.TagOrAny
-field_of (colour k) = field.Colour
 
 -- the one token of a value
 abbrev pub text_of : Value → List ℕ
@@ -166,7 +147,3 @@ IsOp op = AllByRecursion Fits (values_of op)
 -- a line is a spelling of an operation: its tokens are those of the operation, whatever spaces stand between
 abbrev pub Spells : List ℕ → Op → Type 0
 Spells line op = words line ≡ tokens_of op
-
--- the spelling with one space between two tokens
-abbrev pub line_of : Op → List ℕ
-line_of op = in_line (tokens_of op)

@@ -1,5 +1,8 @@
 //! What is wrong with a line.
 
+use std::error::Error;
+use std::fmt;
+
 /// A fault of a line.
 #[derive(Clone, Copy, Debug, Drop, PartialEq, Eq)]
 pub enum FaultKind {
@@ -19,6 +22,23 @@ pub enum FaultKind {
     Extra,
 }
 
+impl FaultKind {
+    /// The fault, with what is wanted in its place.
+    fn text(self) -> &'static str {
+        match self {
+            FaultKind::UnknownWord => "unknown word",
+            FaultKind::Missing => "the line ends where one more word is wanted",
+            FaultKind::BadName => "a name, a process set or a string is wanted",
+            FaultKind::BadNumber => "a number in its range, or a list of numbers, is wanted",
+            FaultKind::BadHex => {
+                "an even number of hexadecimal digits, or - for no bytes, is wanted"
+            }
+            FaultKind::TooLong => "too long",
+            FaultKind::Extra => "the end of the line is wanted",
+        }
+    }
+}
+
 /// The first fault of a line.
 #[derive(Clone, Copy, Debug, Drop, PartialEq, Eq)]
 pub struct LineFault {
@@ -28,3 +48,13 @@ pub struct LineFault {
     /// What is wrong there.
     pub kind: FaultKind,
 }
+
+impl fmt::Display for LineFault {
+    /// Writes the column, and what is wrong or wanted there.
+    fn fmt<W: fmt::Write>(&self, f: &mut fmt::Formatter<W>) -> fmt::Result {
+        let (column, text) = (self.column, self.kind.text());
+        write!(f, "column {column}: {text}")
+    }
+}
+
+impl Error for LineFault {}

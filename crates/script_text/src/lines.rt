@@ -1,7 +1,8 @@
 //! Lines of a script, read.
 ghost use Rattle.std.specs.Prelude.{◌≡◌, not, ◌==◌, find, None, Some, IfOk, IfErr, List, ℕ, ◌++◌, true};
 ghost use Rattle.script_text.specs.Tokens.{is_blank_line};
-ghost use Rattle.script_text.specs.Spelling.{IsOp, Spells, line_of, tokens_of};
+ghost use Rattle.script_text.specs.Spelling.{IsOp, Spells, tokens_of};
+ghost use Rattle.script_text.specs.Writes.{line_of};
 ghost use Rattle.script_text.specs.Faults.{fault_of};
 ghost use Rattle.script_text.specs.Reads.{ReadsOp};
 ghost use Rattle.mpi_base.specs.declared.ops.Op.{Op as AnyOp};

@@ -1,7 +1,7 @@
 //! Operations, written.
 ghost use Rattle.std.specs.Prelude.{◌≡◌, ◌≤◌, ◌+◌, ◌++◌, [], ◌∷◌, length};
-ghost use Rattle.script_text.specs.Spelling.{name, pset, quoted, num, int, hex, list, null_list, triplet_list, arrow, dest, source, tag_or_any, colour, values_of, kind_of, line_of};
-ghost use Rattle.script_text.specs.Writes.{Puts};
+ghost use Rattle.script_text.specs.Spelling.{name, pset, quoted, num, int, hex, list, null_list, triplet_list, arrow, dest, source, tag_or_any, colour, values_of, kind_of};
+ghost use Rattle.script_text.specs.Writes.{line_of, Puts};
 
 use mpi_base::{Ints, Name, Op, Payload, PsetName, RankArgs, SrcArg, StringTag, Triplets};
 use op_table::{OpKind, word_of};

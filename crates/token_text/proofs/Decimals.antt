@@ -10,7 +10,8 @@ use Rattle.std.specs.Char.{digit_value}
 use Rattle.std.specs.Str.{all_ascii_digits}
 use Rattle.std.specs.Str.Parse.{digits_value, digits_value_after}
 use Rattle.mpi_base.specs.Texts.{between}
-use Rattle.token_text.specs.Forms.{Shows, fault_of}
+use Rattle.token_text.specs.Forms.{fault_of}
+use Rattle.token_text.specs.Reading.{Shows}
 use Rattle.token_text.specs.Numbers.{is_unpadded, is_numeral, is_number, number_form, int_form}
 use Rattle.token_text.specs.Steps.{digits_on}
 use Rattle.token_text.specs.declared.faults.TokenFault.TheVariants.{NotOfForm}

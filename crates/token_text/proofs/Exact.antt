@@ -5,7 +5,8 @@ use Rattle.std.proofs.lemmas.Fmt.{first_decimal, decimal_injective, signed_decim
 use Rattle.std.specs.Str.{all_ascii_digits}
 use Rattle.std.specs.Fmt.{signed_decimal}
 use Rattle.mpi_base.specs.Texts.{begins_with_letter_lem, is_name_byte, is_pset_byte, is_tag_byte}
-use Rattle.token_text.specs.Forms.{Form, Reads, fault_of, IsExact, is_solid}
+use Rattle.token_text.specs.Forms.{Form, fault_of}
+use Rattle.token_text.specs.Reading.{Reads, IsExact, is_solid}
 use Rattle.token_text.specs.Numbers.{begins_with, is_number, is_int, IsInt, number_form, int_form}
 use Rattle.token_text.specs.Texts.{name_form, pset_name_form, tag_form, inside, hex_form, hex_text, hex_digits, IsBytes, is_hex_digit, are_hex_digits}
 use Rattle.token_text.specs.declared.faults.TokenFault.{TokenFault}

@@ -13,7 +13,8 @@ use Rattle.mpi_base.specs.declared.groups.RankOut.TheVariants as out
 use Rattle.mpi_base.specs.declared.groups.Triplet.{Triplet}
 use Rattle.mpi_base.specs.declared.messages.SrcArg.{SrcArg}
 use Rattle.mpi_base.specs.declared.messages.SrcArg.TheVariants as source
-use Rattle.token_text.specs.Forms.{Form, fault_of, IsExact, is_solid}
+use Rattle.token_text.specs.Forms.{Form, fault_of}
+use Rattle.token_text.specs.Reading.{IsExact, is_solid}
 use Rattle.token_text.specs.Numbers.{IsInt, number_form, num_form, int_form}
 use Rattle.token_text.specs.Words.{text_or, FitsIf, word_or, dest_form, any_tag_form, colour_form, source_text, IsSource, source_form, rank_arg_text, IsRankArg, rank_arg_form, rank_out_text, IsRankOut, rank_out_form}
 use Rattle.token_text.specs.Lists.{parts_of, items_of, list_text, list_form, triplet_ints, triplet_form, ints_form, rank_args_form, rank_outs_form, triplets_form, members_form}

@@ -2,7 +2,7 @@
 use Rattle.std.proofs.Common.{◌≡◌, ℕ, suc, ◌+◌, ◌*◌, ◌/◌, ◌%◌, ◌<◌, ◌≤◌, ◌&&◌, Bool, true, false, List, [], ◌∷◌, ◌++◌, length, drop, get_or, drop-cons, add-one, append_assoc, sym, ◌∙◌, refl, ap, arith}
 use Rattle.std.proofs.lemmas.Bool.Decides.{nat_tests}
 use Rattle.std.specs.List.{AllByRecursion, list_all}
-use Rattle.token_text.specs.Forms.{Shows}
+use Rattle.token_text.specs.Reading.{Shows}
 use Rattle.token_text.specs.Texts.{is_hex_digit, hex_digit, hex_digits, are_hex_digits, hex_form}
 use Rattle.token_text.specs.Steps.{hex_value, hex_bytes}
 

@@ -9,7 +9,7 @@ use Rattle.std.specs.Str.{all_ascii_digits}
 use Rattle.std.specs.List.{list_all, AllByRecursion, slice_split, join_with_byte}
 use Rattle.std.specs.Fmt.{signed_decimal}
 use Rattle.mpi_base.specs.Texts.{between}
-use Rattle.token_text.specs.Forms.{is_solid}
+use Rattle.token_text.specs.Reading.{is_solid}
 use Rattle.token_text.specs.Numbers.{IsInt}
 use Rattle.token_text.specs.Texts.{is_wrapped, inside}
 use Rattle.token_text.specs.Lists.{parts_of}

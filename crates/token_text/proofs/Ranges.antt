@@ -6,7 +6,7 @@ use Rattle.std.proofs.lemmas.List.Splits.{join_with_byte-slice_split}
 use Rattle.std.specs.List.{join_with_byte}
 use Rattle.std.specs.Fmt.{signed_decimal}
 use Rattle.mpi_base.specs.declared.groups.Triplet.{Triplet}
-use Rattle.token_text.specs.Forms.{Shows}
+use Rattle.token_text.specs.Reading.{Shows}
 use Rattle.token_text.specs.Numbers.{is_int, IsInt}
 use Rattle.token_text.specs.Lists.{parts_of, triplet_form}
 use Rattle.token_text.specs.Steps.{first_of}

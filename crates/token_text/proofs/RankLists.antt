@@ -6,7 +6,8 @@ use Rattle.std.specs.List.{list_all, join_with_byte}
 use Rattle.std.specs.Str.Parse.{digits_value}
 use Rattle.mpi_base.specs.MemberLists.{has_rank, are_distinct, AreRanks}
 use Rattle.mpi_base.proofs.MemberFacts.{ranks-append}
-use Rattle.token_text.specs.Forms.{Shows, Reads, fault_of}
+use Rattle.token_text.specs.Forms.{fault_of}
+use Rattle.token_text.specs.Reading.{Shows, Reads}
 use Rattle.token_text.specs.Numbers.{is_number, number_form}
 use Rattle.token_text.specs.Texts.{is_wrapped, inside}
 use Rattle.token_text.specs.Lists.{items_of, members_form}

@@ -3,7 +3,8 @@ use Rattle.std.proofs.Common.{◌≡◌, ℕ, ◌<◌, ◌≤◌, ◌||◌, not,
 use Rattle.std.proofs.lemmas.Grind.{common_steps}
 use Rattle.std.proofs.lemmas.Bool.Decides.{nat_tests}
 use Rattle.std.specs.List.{list_all, AllByRecursion, join_with_byte}
-use Rattle.token_text.specs.Forms.{Form, Shows, Reads, fault_of}
+use Rattle.token_text.specs.Forms.{Form, fault_of}
+use Rattle.token_text.specs.Reading.{Shows, Reads}
 use Rattle.token_text.specs.Texts.{is_wrapped, inside}
 use Rattle.token_text.specs.Lists.{items_of, list_form}
 use Rattle.token_text.specs.Steps.{first_of, others_of}

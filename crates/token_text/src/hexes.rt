@@ -1,7 +1,7 @@
 //! Bytes of a message, as hexadecimal digits.
 ghost use Rattle.std.specs.Prelude.{◌≡◌, ◌≤◌, ◌<◌, ◌+◌, ◌*◌, ◌++◌, true, length};
 ghost use Rattle.std.specs.List.{list_all};
-ghost use Rattle.token_text.specs.Forms.{Reads, Puts};
+ghost use Rattle.token_text.specs.Reading.{Reads, Puts};
 ghost use Rattle.token_text.specs.Texts.{hex_form, is_hex_digit, are_hex_digits, hex_digit, hex_digits};
 ghost use Rattle.token_text.specs.Steps.{hex_value, hex_bytes};
 

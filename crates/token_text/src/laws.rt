@@ -1,6 +1,6 @@
 //! What holds of all forms.
 ghost use Rattle.std.specs.Prelude.{ℕ, List, ◌<◌, ◌≤◌, ◌^◌, ◌≡◌, false};
-ghost use Rattle.token_text.specs.Forms.{IsExact};
+ghost use Rattle.token_text.specs.Reading.{IsExact};
 ghost use Rattle.token_text.specs.Numbers.{number_form, int_form};
 ghost use Rattle.token_text.specs.Texts.{name_form, pset_name_form, tag_form, hex_form};
 ghost use Rattle.token_text.specs.Words.{dest_form, any_tag_form, colour_form, source_form};

@@ -1,6 +1,6 @@
 //! Lists, between brackets and with a comma between two items.
 ghost use Rattle.std.specs.Prelude.{◌≡◌, ◌≤◌, ◌+◌, length};
-ghost use Rattle.token_text.specs.Forms.{Reads, Puts};
+ghost use Rattle.token_text.specs.Reading.{Reads, Puts};
 ghost use Rattle.token_text.specs.Lists.{ints_form, rank_args_form, rank_outs_form, triplets_form, members_form, triplet_form};
 ghost use Rattle.token_text.specs.Steps.{TakesInt};
 

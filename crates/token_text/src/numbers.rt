@@ -1,6 +1,6 @@
 //! Numbers in decimal digits.
 ghost use Rattle.std.specs.Prelude.{◌≡◌, ◌≤◌, ◌+◌, length};
-ghost use Rattle.token_text.specs.Forms.{Reads, Puts};
+ghost use Rattle.token_text.specs.Reading.{Reads, Puts};
 ghost use Rattle.token_text.specs.Numbers.{is_unpadded, number_form, num_form, int_form};
 ghost use Rattle.token_text.specs.Steps.{digits_on};
 

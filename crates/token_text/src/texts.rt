@@ -1,7 +1,7 @@
 //! Names, names of process sets and string tags.
 ghost use Rattle.std.specs.Prelude.{◌≡◌, ◌≤◌, ◌+◌, if◌then◌else◌, Some, None, length};
 ghost use Rattle.std.specs.Option.{option_copied};
-ghost use Rattle.token_text.specs.Forms.{Reads, Puts};
+ghost use Rattle.token_text.specs.Reading.{Reads, Puts};
 ghost use Rattle.token_text.specs.Texts.{name_form, pset_name_form, tag_form, is_wrapped, inside};
 
 use crate::faults::TokenFault;

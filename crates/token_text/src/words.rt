@@ -1,6 +1,6 @@
 //! Numbers, or words in their place.
 ghost use Rattle.std.specs.Prelude.{◌≡◌, ◌≤◌, ◌+◌, length};
-ghost use Rattle.token_text.specs.Forms.{Reads, Puts};
+ghost use Rattle.token_text.specs.Reading.{Reads, Puts};
 ghost use Rattle.token_text.specs.Numbers.{num_form, int_form};
 ghost use Rattle.token_text.specs.Words.{word_or, source_form, rank_arg_form, rank_out_form};
 

@@ -1,4 +1,4 @@
-use Rattle.std.proofs.Common.{ℕ, ◌+◌, ◌≤◌, length, take, arith, length-take}
+use Rattle.std.proofs.Common.{◌+◌, ◌≤◌, length, take, arith, length-take}
 use Rattle.std.proofs.lemmas.Grind.{common_steps}
 use Rattle.mpisess.proofs.Formed.{more_at_most}
 use Rattle.mpisess.proofs.input.read_front.Goals as goal

@@ -1,7 +1,8 @@
 use Rattle.std.proofs.Common.{◌≡◌, true, Result, Ok, Err, IfErr, sym, ap, ◌∙◌, true≢false}
 use Rattle.std.specs.Result.{IsErrAnd}
 use Rattle.mpisess.specs.Commands.{reads}
-use Rattle.mpisess.specs.Statuses.{stop_status, was_read}
+use Rattle.mpisess.specs.Statuses.{was_read}
+use Rattle.mpisess.specs.Stops.{stop_status}
 use Rattle.mpisess.specs.declared.status.Stop.{Stop}
 use Rattle.mpisess.specs.declared.status.Stop.TheVariants as stop
 use Rattle.mpisess.proofs.jobs.find_job.Goals as goal

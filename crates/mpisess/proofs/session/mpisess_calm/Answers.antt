@@ -1,5 +1,4 @@
 use Rattle.std.proofs.Common.{◌≡◌, Option, Some, Err, sym, ap, subst, ◌∙◌, true≢false, inr}
-use Rattle.job_file.specs.declared.faults.JobFault.{JobFault}
 use Rattle.mpisess.specs.declared.command.Command.{Command}
 use Rattle.mpisess.specs.Jobs.{IsJobOf, IsFaultOf, IsTold}
 use Rattle.mpisess.specs.Statuses.{was_read}

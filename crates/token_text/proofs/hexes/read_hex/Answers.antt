@@ -1,5 +1,5 @@
 use Rattle.std.proofs.Common.{◌≡◌, ℕ, List, true, sym, subst, rules, arith}
-use Rattle.token_text.specs.Forms.{Shows}
+use Rattle.token_text.specs.Reading.{Shows}
 use Rattle.token_text.specs.Steps.{hex_bytes}
 use Rattle.token_text.specs.Texts.{are_hex_digits, hex_form}
 use Rattle.token_text.proofs.Hex.{hex_found}
