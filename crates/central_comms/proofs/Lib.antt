@@ -1,0 +1,3 @@
+mod CommFacts
+pub mod PlaceFacts
+mod RowFacts

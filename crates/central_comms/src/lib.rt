@@ -1,0 +1,9 @@
+//! The communicators of the central registry.
+#![tactic(auto)]
+
+mod comms;
+mod rows;
+#[cfg(test)]
+mod tests;
+
+pub use comms::Comms;
