@@ -12,7 +12,7 @@ use Rattle.mpi_law.specs.Registry.Creations.{has_called, is_joinable, place_wher
 use Rattle.mpi_law.specs.Registry.Calls.{effect_at}
 use Rattle.mpi_law.specs.Registry.Events.{Event, Calls, Replies, registry_next}
 use Rattle.mpi_law.specs.Registry.Runs.{Allowed}
-use Rattle.answer_law.specs.Answers.{IsRun, registry_at, Answer, is_call_of, CalledLast}
+use Rattle.answer_law.specs.Answers.{IsRun, registry_at, Answer, is_call_of, CalledLast, creation_in}
 use Rattle.answer_law.proofs.Joins.{row, called_more, joined_place}
 use Rattle.answer_law.proofs.Changes.{Change, same, joins, opens, picks, notes, change}
 use Rattle.answer_law.proofs.Sound.{blank_at, Sound, sound_next, sound_opening}
@@ -99,6 +99,9 @@ waiters_next s before e a h = record { sound = sound_next s before e a h.sound; 
 
 waiters_at : (s : Setting) (events : List Event) → IsRun s events → Waiters s events (registry_at s events)
 waiters_at s events run = along s (Waiters s) (waiters_next s) [] events run (record { sound = sound_opening s; of = λ r t n w. absurd (let z = rw (blank_at s.ranks r, blank_waits t) at w in cc (z)) })
+
+pub waiting_called : (s : Setting) (events : List Event) (n r t : ℕ) → IsRun s events → (thread_of (registry_at s events) r t).wait ≡ Creating n → has_called (creation_in s events n) r ≡ true
+waiting_called s events n r t run w = ((waiters_at s events run).of r t n w).called
 
 pub called_last : (s : Setting) (events : List Event) (n r : ℕ) (said : Reply) → IsRun s events → (a : Answer s events n r said) → CalledLast s a.before n r a.thread
 called_last s events n r said run a =

@@ -11,7 +11,7 @@ ghost use Rattle.mpi_base.specs.declared.replies.Reply.TheVariants.{Comm, Null, 
 ghost use Rattle.mpi_base.specs.declared.shares.Shared1.{Shared1};
 ghost use Rattle.mpi_law.specs.declared.setting.Setting.{Setting};
 ghost use Rattle.mpi_law.specs.Splits.{has_colour, split_class};
-ghost use Rattle.mpi_law.specs.Registry.State.{Message, Receive, place_in};
+ghost use Rattle.mpi_law.specs.Registry.State.{Message, Receive, Creating, place_in, thread_of};
 ghost use Rattle.mpi_law.specs.Registry.Messages.{message_of, receive_of};
 ghost use Rattle.mpi_law.specs.Registry.Creations.{has_called, all_called, is_uncoloured};
 ghost use Rattle.mpi_law.specs.Registry.Contexts.{LiveApart};
@@ -23,6 +23,11 @@ ghost use Rattle.answer_law.specs.Receipts.{Receipt, TookFirst, SentBy, PostedBy
 /// The creation that a thread is answered of is the one that it has called last.
 pub fn answers_are_of_the_last_call()
     ensures { (s : Setting) (events : List Event) (n r : ℕ) (said : Reply) → IsRun s events → (answer : Answer s events n r said) → CalledLast s answer.before n r answer.thread }
+{}
+
+/// A thread that waits for a creation is of a rank that stands as a caller at it.
+pub fn waiting_threads_have_called()
+    ensures { (s : Setting) (events : List Event) (n r t : ℕ) → IsRun s events → (thread_of (registry_at s events) r t).wait ≡ Creating n → has_called (creation_in s events n) r ≡ true }
 {}
 
 /// Who stands as a caller at a creation has called it by its name, with the share that stands there; and nothing is

@@ -1,3 +1,3 @@
-mod CommFacts
+pub mod CommFacts
 pub mod PlaceFacts
 mod RowFacts

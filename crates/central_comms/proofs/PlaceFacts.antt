@@ -1,6 +1,9 @@
 -- A list read at the places of those elements that pass a test.
 use Rattle.std.proofs.Common.{◌≡◌, ℕ, suc, ◌+◌, ◌<◌, Bool, true, false, if◌then◌else◌, List, [], ◌∷◌, ◌++◌, length, map, filter, get_or, set, find, position, Option, Some, None, option_map, is_some, All, add-zero, zero-add, inl, inr, refl, sym, ap, subst, ◌∙◌, arith, append_assoc, length-append, length-set}
 use Rattle.std.specs.List.{list_any, fold}
+use Rattle.std.specs.Option.{option_to_list}
+use Rattle.std.proofs.lemmas.List.{append-nil, get_or_past}
+use Rattle.std.proofs.lemmas.List.Elements.{filter-append}
 use Rattle.std.proofs.lemmas.Bool.Decides.{nat_tests}
 use Rattle.std.proofs.lemmas.Bool.{cases_eq}
 use Rattle.std.proofs.lemmas.List.{get_or_at, set_at, get_or-map, get_or-set_same, get_or-set_other, length-map}
@@ -172,3 +175,29 @@ module _ {A : Type 0} (blank : A) (test : A → Bool) where
 
     pub fold_at_places : (xs : List A) → fold (λ ys k. set ys k (f (get_or ys k blank))) xs (places_where test xs) ≡ map f xs
     fold_at_places xs = fold_from [] xs 0 refl
+
+-- Fewer elements
+
+module _ {A : Type 0} (blank : A) (test : A → Bool) where
+  -- the places that are left, once those of elements that no longer pass are gone
+  pub places_left : (old new rows : List A) (held left : List ℕ) → held ≡ places_where test old → rows ≡ new
+      → left ≡ filter (λ k. test (get_or rows k blank)) held
+      → filter (λ k. test (get_or new k blank)) (places_where test old) ≡ places_where test new → left ≡ places_where test new
+  places_left old new rows held left was same is step =
+      is ∙ ap (λ ys. filter (λ k. test (get_or ys k blank)) held) same ∙ ap (λ ks. filter (λ k. test (get_or new k blank)) ks) was ∙ step
+
+  module _ (off : test blank ≡ false) where
+    last_goes : (ys : List A) (b : Bool) → filter (λ k. test (get_or ys k blank)) (if b then length ys ∷ [] else []) ≡ []
+    last_goes ys true = let past = ap test (get_or_past ys (length ys) blank (omega arith)) ∙ off in grind (arith, past)
+    last_goes ys false = refl
+
+    -- without the last element
+    pub places_popped : (ys : List A) (last : Option A) → filter (λ k. test (get_or ys k blank)) (places_where test (ys ++ option_to_list last)) ≡ places_where test ys
+    places_popped ys None =
+        ap (λ xs. filter (λ k. test (get_or ys k blank)) (places_where test xs)) (append-nil ys) ∙ places_kept blank test ys ys refl (λ k below done. done)
+    places_popped ys (Some x) =
+        ap (λ ks. filter (λ k. test (get_or ys k blank)) ks) (places-push test ys x)
+        ∙ filter-append (λ k. test (get_or ys k blank)) (places_where test ys) (if test x then length ys ∷ [] else [])
+        ∙ ap (λ ks. filter (λ k. test (get_or ys k blank)) (places_where test ys) ++ ks) (last_goes ys (test x))
+        ∙ append-nil (filter (λ k. test (get_or ys k blank)) (places_where test ys))
+        ∙ places_kept blank test ys ys refl (λ k below done. done)

@@ -1,7 +1,9 @@
 -- Rows that change, seen as communicators.
 use Rattle.std.proofs.Common.{◌≡◌, ℕ, ◌<◌, ◌≤◌, true, List, [], ◌∷◌, ◌++◌, if◌then◌else◌, length, map, get_or, set, inl, inr, sym, ap, ◌∙◌, arith}
+use Rattle.std.specs.Option.{option_to_list}
+use Rattle.std.specs.Prelude.{Option, Some, None, option_map}
 use Rattle.std.proofs.lemmas.Bool.{cases_eq}
-use Rattle.std.proofs.lemmas.List.{get_or-map, get_or-set_same, get_or-set_other, length-map, map-set, map_push}
+use Rattle.std.proofs.lemmas.List.{map-append, get_or-map, get_or-set_same, get_or-set_other, length-map, map-set, map_push}
 use Rattle.std.proofs.Math.Seq.{map-set_same}
 use Rattle.mpi_law.specs.Registry.State.{Communicator, blank_comm}
 use Rattle.mpi_law.specs.Registry.Calls.{is_kept}
@@ -65,3 +67,8 @@ places_more rows row held more was is =
     is ∙ ap (λ ps. ps ++ (if is_held (row_comm row) then length rows ∷ [] else [])) was
     ∙ ap (λ n. places_where is_held (map row_comm rows) ++ (if is_held (row_comm row) then n ∷ [] else [])) (sym (length-map rows row_comm))
     ∙ sym (places-push is_held (map row_comm rows) (row_comm row)) ∙ ap (λ comms. places_where is_held comms) (sym (map_push row_comm rows row))
+
+-- without the last row
+pub comms_popped : (rows : List CommRow) (last : Option CommRow) → map row_comm (rows ++ option_to_list last) ≡ map row_comm rows ++ option_to_list (option_map row_comm last)
+comms_popped rows None = map-append row_comm rows []
+comms_popped rows (Some row) = map-append row_comm rows (row ∷ [])

@@ -1,8 +1,8 @@
 //! The communicators of the registry.
-ghost use Rattle.std.specs.Prelude.{◌≡◌, ◌<◌, ◌≤◌, ◌==◌, ◌&&◌, ◌∷◌, ◌++◌, [], length, get_or, set, map, filter, All, OnErr, OnOk};
+ghost use Rattle.std.specs.Prelude.{List, ◌≡◌, ◌<◌, ◌≤◌, ◌==◌, ◌&&◌, ◌∷◌, ◌++◌, [], length, get_or, set, map, filter, All, OnErr, OnOk};
 ghost use Rattle.std.specs.List.{list_all, list_any, fold};
 ghost use Rattle.mpi_base.specs.MemberLists.{has_rank};
-ghost use Rattle.mpi_law.specs.Registry.State.{blank_comm, session_at};
+ghost use Rattle.mpi_law.specs.Registry.State.{Communicator, blank_comm, session_at};
 ghost use Rattle.mpi_law.specs.Registry.Contexts.{in_use, comm_of, is_live_at};
 ghost use Rattle.mpi_law.specs.Registry.Calls.{with_freed, is_kept, freed_all};
 ghost use Rattle.mpi_law.specs.Registry.Events.{with_returned};
@@ -17,7 +17,7 @@ use std::marker::Model;
 /// The communicators of the registry, each named by its place, from 0, in the order in which they were
 /// picked.
 ///
-/// No communicator is ever taken out. Lookups by rank go through those alone that some member has not
+/// No communicator is ever taken out, but the last by the one that added it. Lookups by rank go through those alone that some member has not
 /// freed or not given back: no other is live at a rank or kept by one.
 #[derive(Drop)]
 pub struct Comms {
@@ -204,6 +204,15 @@ impl Comms {
         }
         self.rows.push_reserved(row);
         Ok(())
+    }
+
+    /// Takes the last communicator out again, if there is one.
+    pub fn drop_last(&mut self)
+        ensures last { (comms : List Communicator) (m : Communicator) → self.old ≡ comms ++ m ∷ [] → self.new ≡ comms }
+        ensures none { self.old ≡ [] → self.new ≡ [] }
+    {
+        self.rows.pop();
+        let_go(&self.rows, &mut self.held);
     }
 
     /// A rank frees a communicator, whether or not it is a member or has freed it before. After an Err

@@ -71,6 +71,8 @@ fn a_context_that_all_gave_back_comes_again(rt: HostRuntime) {
     assert_eq!(rt; comms.place_of(2, 3), Some(2));
     assert_eq!(rt; comms.ctx(2), 3);
     assert_eq!(rt; comms.members(2).len(), 1);
+    comms.drop_last();
+    assert_eq!(rt; comms.place_of(2, 3), None);
 }
 
 #[test]

@@ -1,0 +1,4 @@
+mod ClassFacts
+mod CreationFacts
+mod ListFacts
+mod WaitingFacts

@@ -1,0 +1,13 @@
+//! What the central registry keeps of each rank.
+#![tactic(auto)]
+
+mod effects;
+mod part;
+mod ranks;
+#[cfg(test)]
+mod tests;
+mod threads;
+mod wait;
+
+pub use ranks::Ranks;
+pub use wait::Wait;

@@ -1,0 +1,11 @@
+mod Ranges
+mod Members
+mod Steps
+mod Reached
+mod Acts
+mod PickTests
+mod Kept
+mod SameReplies
+mod CallMoves
+mod Replying
+mod Closing
