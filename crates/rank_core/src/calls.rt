@@ -4,7 +4,7 @@ ghost use Rattle.mpi_law.specs.Local.{effect_of};
 ghost use Rattle.mpi_law.specs.declared.setting.TheConstants.{THREADS};
 ghost use Rattle.mpi_protocol.specs.Calls.{around_here};
 ghost use Rattle.mpi_protocol.specs.Step.{is_enabled};
-ghost use Rattle.rank_plan.specs.Targets.{BindsFree};
+ghost use Rattle.call_plan.specs.Targets.{BindsFree};
 ghost use Rattle.rank_core.specs.Calling.{Carries};
 ghost use Rattle.rank_core.specs.Packets.{sent_by};
 ghost use Rattle.rank_core.specs.Held.{CountsAreLow, IsReady, Makes, MOST_SENT};

@@ -1,15 +1,9 @@
 //! What an operation does at its rank, decided before anything changes.
 #![tactic(auto)]
 
-mod comms;
-mod creations;
-mod effect;
-mod groups;
 mod keys;
-mod messages;
-mod names;
-mod sets;
 mod surroundings;
+mod tables;
 #[cfg(test)]
 mod tests;
 

@@ -1,24 +1,37 @@
-//! What one rank of two is refused.
-use crate::Surroundings;
+//! What a rank is refused for what its tables hold.
+use crate::{Surroundings, key_of};
 use bind_tab::{Bound, Objects};
 use comm_tab::CommTab;
-use mpi_base::{ErrClass, Members, Name, Op, Payload, Reply};
-use mpi_law::{Effect, Setting};
+use mpi_base::{ErrClass, Members, Name, Op, Payload, Reply, StringTag};
+use mpi_group::Group;
+use mpi_law::{Effect, Origin, Setting};
+use mpi_protocol::Waits;
 use pset_reg::Psets;
 use rank_rows::Threads;
+use session_tab::SessionId;
 use std::process::Abort;
 
 fn name(rt: &impl Abort, text: &[u8]) -> Name {
     Name::new(text).expect(rt, "a name")
 }
 
-fn send(rt: &impl Abort, to: u32, tag: u32) -> Op {
-    Op::Send(
-        name(rt, b"c"),
-        Some(to),
-        tag,
-        Payload::new(b"x").expect(rt, "bytes"),
-    )
+fn tag(rt: &impl Abort, text: &[u8]) -> StringTag {
+    StringTag::new(text).expect(rt, "a tag")
+}
+
+fn alone() -> Members {
+    let mut members = Members::none();
+    members.push(1);
+    members
+}
+
+fn send(rt: &impl Abort, to: u32) -> Op {
+    let payload = Payload::new(b"x").expect(rt, "bytes");
+    Op::Send(name(rt, b"c"), Some(to), 0, payload)
+}
+
+fn create(rt: &impl Abort, text: &[u8]) -> Op {
+    Op::Create(name(rt, b"g"), tag(rt, text), name(rt, b"d"))
 }
 
 fn refusal(effect: &Effect<u16>) -> Option<ErrClass> {
@@ -29,21 +42,38 @@ fn refusal(effect: &Effect<u16>) -> Option<ErrClass> {
 }
 
 #[test]
-fn arguments_are_refused_by_their_class(rt: HostRuntime) {
+fn calls_are_refused_for_what_the_tables_hold(rt: HostRuntime) {
     let setting = Setting {
         ranks: 2,
         contexts: 3,
         psets: Psets::start(rt.alloc(), 2).expect(&rt, "memory"),
     };
     let mut objects = Objects::none(rt.alloc());
-    objects.reserve().expect(&rt, "memory");
-    objects.bind(name(&rt, b"c"), Bound::Comm(3, 1));
-    let mut members = Members::none();
-    members.push(1);
+    for (text, what) in [
+        (b"s", Bound::Session(SessionId { slot: 0, serial: 1 })),
+        (b"z", Bound::Session(SessionId { slot: 1, serial: 2 })),
+        (b"g", Bound::Group(Group::of(alone()), 1)),
+        (b"c", Bound::Comm(3, 1)),
+    ] {
+        objects.reserve().expect(&rt, "memory");
+        objects.bind(name(&rt, text), what);
+    }
     let mut comms = CommTab::none(rt.alloc(), 1);
     comms.reserve().expect(&rt, "memory");
-    comms.add(3, members, 1);
-    let threads = Threads::idle(rt.alloc()).expect(&rt, "memory");
+    comms.add(3, alone(), 1);
+    let mut threads = Threads::idle(rt.alloc()).expect(&rt, "memory");
+    let origin = Origin::Grouped {
+        group: alone(),
+        tag: tag(&rt, b"t"),
+    };
+    threads.call(
+        0,
+        Waits::Creation {
+            key: key_of(&comms, &origin),
+            target: name(&rt, b"e"),
+            session: 1,
+        },
+    );
     let around = Surroundings {
         rank: 1,
         setting: &setting,
@@ -51,14 +81,13 @@ fn arguments_are_refused_by_their_class(rt: HostRuntime) {
         comms: &comms,
         threads: &threads,
     };
-    let split = Op::Split(name(&rt, b"c"), Some(-1), 0, name(&rt, b"d"));
-    let dup = Op::Dup(name(&rt, b"d"), name(&rt, b"c"));
     for (op, class) in [
-        (send(&rt, 0, 32_767), None),
-        (send(&rt, 1, 32_767), Some(ErrClass::Rank)),
-        (send(&rt, 0, 32_768), Some(ErrClass::Tag)),
-        (split, Some(ErrClass::Arg)),
-        (dup, Some(ErrClass::Comm)),
+        (send(&rt, 0), None),
+        (send(&rt, 1), Some(ErrClass::Rank)),
+        (create(&rt, b"t"), Some(ErrClass::Busy)),
+        (create(&rt, b"u"), None),
+        (Op::Finalize(name(&rt, b"s")), Some(ErrClass::Busy)),
+        (Op::Finalize(name(&rt, b"z")), None),
     ] {
         assert_eq!(rt; refusal(&around.effect(&op)), class);
     }
