@@ -34,6 +34,13 @@ fn create(rt: &impl Abort, text: &[u8]) -> Op {
     Op::Create(name(rt, b"g"), tag(rt, text), name(rt, b"d"))
 }
 
+fn bind(rt: &impl Abort, objects: &mut Objects, text: &[u8], what: Bound) {
+    let name = name(rt, text);
+    objects.reserve().expect(rt, "memory");
+    assert!(rt; objects.find(&name).is_none());
+    objects.bind(name, what);
+}
+
 fn refusal(effect: &Effect<u16>) -> Option<ErrClass> {
     match effect {
         Effect::Says(Reply::Refused(class)) => Some(*class),
@@ -55,8 +62,7 @@ fn calls_are_refused_for_what_the_tables_hold(rt: HostRuntime) {
         (b"g", Bound::Group(Group::of(alone()), 1)),
         (b"c", Bound::Comm(3, 1)),
     ] {
-        objects.reserve().expect(&rt, "memory");
-        objects.bind(name(&rt, text), what);
+        bind(&rt, &mut objects, text, what);
     }
     let mut comms = CommTab::none(rt.alloc(), 1);
     comms.reserve().expect(&rt, "memory");
