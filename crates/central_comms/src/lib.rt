@@ -2,8 +2,10 @@
 #![tactic(auto)]
 
 mod comms;
+mod pairs;
 mod rows;
 #[cfg(test)]
 mod tests;
 
 pub use comms::Comms;
+pub use pairs::Pairs;

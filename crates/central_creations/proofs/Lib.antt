@@ -1,4 +1,5 @@
 mod ClassFacts
+mod CountFacts
 mod CreationFacts
 mod ListFacts
 mod WaitingFacts

@@ -12,6 +12,8 @@ use crate::callers::Caller;
 use crate::names::CreationName;
 use crate::picks::Outcome;
 use crate::rows::CreationRow;
+use crate::{calls, splits};
+use central_comms::Pairs;
 use mpi_base::{Members, OutOfMemory};
 use mpi_law::Origin;
 use std::alloc::Global;
@@ -19,12 +21,15 @@ use std::marker::Model;
 
 /// The creations of the registry, each named by its place, from 0, in the order in which they were first
 /// called (MPI 4.0, 7.4.2). No creation is ever taken out. A call looks for the creation that it joins
-/// among those alone that are not picked yet.
+/// among those alone that are not picked yet; how many calls a rank has made on a communicator is counted
+/// call by call; and where the first split of each name is, is kept.
 #[derive(Drop)]
 pub struct Creations {
     alloc: Global,
     rows: Vec<CreationRow>,
     waiting: Vec<usize>,
+    calls: Pairs,
+    splits: Pairs,
 }
 
 impl Model for Creations {
@@ -33,13 +38,11 @@ impl Model for Creations {
 
     ghost Value = { List Creation };
 
-    ghost use Rattle.std.specs.Prelude.{◌≡◌};
-    ghost use Rattle.central_comms.specs.Places.{places_where};
-    ghost use Rattle.central_creations.specs.Waiting.{is_waiting};
+    ghost use Rattle.central_creations.specs.Found.{AreFound};
 
     ghost view = { λ s. s.rows.items };
 
-    ghost invariant = { λ s. s.waiting.items ≡ places_where is_waiting s.rows.items };
+    ghost invariant = { λ s. AreFound s.waiting.items s.calls s.splits s.rows.items };
 }
 
 /// Whether the creation at a place is not picked yet; so it is where there is no creation.
@@ -68,6 +71,8 @@ impl Creations {
             alloc,
             rows: Vec::new(alloc),
             waiting: Vec::new(alloc),
+            calls: Pairs::none(alloc),
+            splits: Pairs::none(alloc),
         }
     }
 
@@ -82,10 +87,7 @@ impl Creations {
     fn called_on(&self, parent: u16, rank: u16) -> u64
         ensures { result ≡ called_on self.now parent rank }
     {
-        self.rows
-            .iter()
-            .filter(|row| row.name.is_counted_on(parent) && row.has_called(rank))
-            .count() as u64
+        calls::count(&self.calls, parent, rank) as u64
     }
 
     /// The name of a creation that a rank calls now.
@@ -136,10 +138,7 @@ impl Creations {
         if !name.is_split() {
             return self.place_joinable(name);
         }
-        self.rows
-            .iter()
-            .position(|row| row.is_pickable(name))
-            .unwrap_or(self.rows.len())
+        splits::first(&self.splits, name).unwrap_or(self.rows.len())
     }
 
     /// A call joins the creation of its name that is not picked yet, or opens a new one, at the end, that
@@ -167,7 +166,11 @@ impl Creations {
         ensures ok { OnOk result (self.new ≡ set self.old place (with_caller (get_or self.old place blank_creation) caller)) }
         ensures err { OnErr result (self.new ≡ self.old) }
     {
+        let rank = caller.rank;
+        let parent = self.rows[place].newly_counted(rank);
+        let next = calls::next(&mut self.calls, parent, rank)?;
         self.rows[place].call(caller)?;
+        calls::raise(&mut self.calls, parent, rank, next);
         let_go(&self.rows, &mut self.waiting);
         Ok(())
     }
@@ -184,7 +187,12 @@ impl Creations {
     {
         self.rows.reserve(1)?;
         self.waiting.reserve(1)?;
+        let rank = caller.rank;
+        let parent = name.counted_parent();
         let row = CreationRow::opened(self.alloc, name, group, caller)?;
+        let next = calls::next(&mut self.calls, parent, rank)?;
+        splits::enter(&mut self.splits, &row.name, self.rows.len())?;
+        calls::raise(&mut self.calls, parent, rank, next);
         if !row.is_picked() {
             self.waiting.push_reserved(self.rows.len());
         }

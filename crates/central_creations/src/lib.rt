@@ -2,11 +2,13 @@
 #![tactic(auto)]
 
 mod callers;
+mod calls;
 mod classes;
 mod creations;
 mod names;
 mod picks;
 mod rows;
+mod splits;
 #[cfg(test)]
 mod tests;
 

@@ -1,7 +1,8 @@
 //! The names of creations.
 ghost use Rattle.std.specs.Prelude.{◌≡◌, []};
 ghost use Rattle.mpi_law.specs.Registry.State.{Group_and_tag, Nth_dup, Nth_split, Group_on};
-ghost use Rattle.mpi_law.specs.Registry.Creations.{same_name, is_split as is_split_name, is_under as is_under_name, is_counted_on as counts_on};
+ghost use Rattle.mpi_law.specs.Registry.Creations.{same_name, is_split as is_split_name, is_under as is_under_name};
+ghost use Rattle.central_creations.specs.Found.{counted_parent, split_of};
 
 use mpi_base::{Members, StringTag};
 use std::marker::Model;
@@ -159,6 +160,16 @@ impl CreationName {
         matches!(&self.form, NameForm::NthSplit { .. })
     }
 
+    /// The parent and the number of a split; None for another name.
+    pub(crate) fn split(&self) -> Option<(u16, u64)>
+        ensures { result ≡ split_of self.now }
+    {
+        match &self.form {
+            NameForm::NthSplit { parent, number } => Some((*parent, *number)),
+            _ => None,
+        }
+    }
+
     /// Whether it is the name of a creation under the communicator at a place.
     pub(crate) fn is_under(&self, place: usize) -> bool
         ensures { result ≡ is_under_name place self.now }
@@ -171,14 +182,14 @@ impl CreationName {
         }
     }
 
-    /// Whether it is the name of a dup or a split of the communicator at a place.
-    pub(crate) fn is_counted_on(&self, place: u16) -> bool
-        ensures { result ≡ counts_on place self.now }
+    /// The communicator of which it is the name of a dup or a split; None for another name.
+    pub(crate) fn counted_parent(&self) -> Option<u16>
+        ensures { result ≡ counted_parent self.now }
     {
         match &self.form {
-            NameForm::NthDup { parent, .. } => *parent == place,
-            NameForm::NthSplit { parent, .. } => *parent == place,
-            _ => false,
+            NameForm::NthDup { parent, .. } => Some(*parent),
+            NameForm::NthSplit { parent, .. } => Some(*parent),
+            _ => None,
         }
     }
 }

@@ -4,7 +4,8 @@ ghost use Rattle.std.specs.List.{list_all, list_any};
 ghost use Rattle.std.specs.Option.{option_copied};
 ghost use Rattle.mpi_base.specs.MemberLists.{has_rank};
 ghost use Rattle.mpi_law.specs.Closed.{is_served, is_picked_or_short};
-ghost use Rattle.mpi_law.specs.Registry.Creations.{all_called, caller_of, class_by, class_of, has_called, is_joinable, is_pickable, is_picked, is_uncoloured, outcome_for, share_of, with_answer, with_caller, with_pick};
+ghost use Rattle.mpi_law.specs.Registry.Creations.{all_called, caller_of, class_by, class_of, has_called, is_joinable, is_picked, is_uncoloured, outcome_for, share_of, with_answer, with_caller, with_pick};
+ghost use Rattle.central_creations.specs.Found.{newly_counted};
 ghost use Rattle.central_creations.specs.Outcomes.{outcome_seen};
 
 use crate::callers::Caller;
@@ -163,11 +164,15 @@ impl CreationRow {
         self.name.is_same(name) && !self.is_picked()
     }
 
-    /// Whether a pick with this name is for it.
-    pub(crate) fn is_pickable(&self, name: &CreationName) -> bool
-        ensures { result ≡ is_pickable name.now self.now }
+    /// The communicator on which a call of a rank would count here; None where the rank has called it, or
+    /// where it is no dup and no split.
+    pub(crate) fn newly_counted(&self, rank: u16) -> Option<u16>
+        ensures { result ≡ newly_counted self.now rank }
     {
-        self.name.is_same(name) && (self.name.is_split() || self.picks.is_empty())
+        if self.has_called(rank) {
+            return None;
+        }
+        self.name.counted_parent()
     }
 
     /// One caller more.

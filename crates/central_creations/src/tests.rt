@@ -91,3 +91,36 @@ fn a_split_has_classes_ordered_by_key(rt: HostRuntime) {
     let again = creations.name_of(1, &Origin::Duplicated { comm: 4 });
     assert!(rt; again.is_same(&CreationName::nth_dup(4, 1)));
 }
+
+fn called(
+    rt: &impl Abort,
+    creations: &mut Creations,
+    rank: u16,
+    origin: &Origin<u16>,
+) -> CreationName {
+    let name = creations.name_of(rank, origin);
+    creations
+        .join(name.copy(), members(&[0, 1]), caller(rt, rank, None))
+        .expect(rt, "memory");
+    name
+}
+
+#[test]
+fn calls_are_counted_and_splits_found(rt: HostRuntime) {
+    let mut creations = Creations::none(rt.alloc());
+    let dup = Origin::Duplicated { comm: 4 };
+    let split = Origin::Divided {
+        comm: 4,
+        share: Shared1::default(),
+    };
+    assert!(rt; called(&rt, &mut creations, 0, &dup).is_same(&CreationName::nth_dup(4, 0)));
+    assert!(rt; called(&rt, &mut creations, 0, &split).is_same(&CreationName::nth_split(4, 1)));
+    assert!(rt; called(&rt, &mut creations, 0, &dup).is_same(&CreationName::nth_dup(4, 2)));
+    assert!(rt; called(&rt, &mut creations, 1, &dup).is_same(&CreationName::nth_dup(4, 0)));
+    assert!(rt; called(&rt, &mut creations, 1, &split).is_same(&CreationName::nth_split(4, 1)));
+    assert!(rt; called(&rt, &mut creations, 0, &split).is_same(&CreationName::nth_split(4, 3)));
+    assert!(rt; creations.len() == 4 && creations.all_called(1) && !creations.all_called(3));
+    assert_eq!(rt; creations.place_pickable(&CreationName::nth_split(4, 1)), 1);
+    assert_eq!(rt; creations.place_pickable(&CreationName::nth_split(4, 3)), 3);
+    assert_eq!(rt; creations.place_pickable(&CreationName::nth_split(3, 1)), 4);
+}

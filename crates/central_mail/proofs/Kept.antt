@@ -1,7 +1,7 @@
 -- A message that is matched or dropped stays so and matches nothing, and so does a receive that has taken a message.
 use Rattle.std.proofs.Common.{◌≡◌, ℕ, Bool, true, false, if◌then◌else◌, List, filter, map, get_or, Some, refl, ap, ◌∙◌, arith}
 use Rattle.std.specs.List.{list_any}
-use Rattle.mpi_law.specs.Registry.State.{Registry, Message, Receive, Matched}
+use Rattle.mpi_law.specs.Registry.State.{Registry, Message, Receive, Matched, Dropped}
 use Rattle.mpi_law.specs.Registry.Messages.{is_unmatched, is_waiting, is_message, is_receive, is_left_on, is_overtaken, is_preceded, may_match, with_fate, taking}
 use Rattle.central_comms.specs.Places.{places_where}
 use Rattle.central_comms.proofs.PlaceFacts.{places_kept_map}
@@ -48,6 +48,38 @@ module _ (x : Receive) (done : is_waiting x ≡ false) where
       go : (b : Bool) → is_waiting (if b then taking (Some m) x else x) ≡ false
       go true = refl
       go false = done
+
+-- What keeps its numbers
+
+module _ (a b : ℕ) (m : Message) where
+  pub matched_numbers : (from number : ℕ) → is_message a b (matched_if from number m) ≡ is_message a b m
+  matched_numbers from number = go (is_message from number m)
+    where
+      go : (t : Bool) → is_message a b (if t then with_fate Matched m else m) ≡ is_message a b m
+      go true = refl
+      go false = refl
+
+  pub dropped_numbers : (p r : ℕ) → is_message a b (dropped_if p r m) ≡ is_message a b m
+  dropped_numbers p r = go (is_left_on p r m)
+    where
+      go : (t : Bool) → is_message a b (if t then with_fate Dropped m else m) ≡ is_message a b m
+      go true = refl
+      go false = refl
+
+pub taken_numbers : (a b : ℕ) (x : Receive) (r number : ℕ) (m : Message) → is_receive a b (taking_if r number m x) ≡ is_receive a b x
+taken_numbers a b x r number m = go (is_receive r number x)
+  where
+    go : (t : Bool) → is_receive a b (if t then taking (Some m) x else x) ≡ is_receive a b x
+    go true = refl
+    go false = refl
+
+-- What has other numbers stays
+
+pub not_matched : (from number : ℕ) (m : Message) → is_message from number m ≡ false → matched_if from number m ≡ m
+not_matched from number m other = ap (λ t. if t then with_fate Matched m else m) other
+
+pub not_taking : (r number : ℕ) (m : Message) (x : Receive) → is_receive r number x ≡ false → taking_if r number m x ≡ x
+not_taking r number m x other = ap (λ t. if t then taking (Some m) x else x) other
 
 -- The places that are left
 

@@ -1,3 +1,4 @@
+mod Indexed
 mod Kept
 pub mod Registries
 mod Walks

@@ -1,11 +1,8 @@
 -- What is said of a list, said by the elements at the places of those that pass a test, and the places after a change.
-use Rattle.std.proofs.Common.{◌≡◌, ℕ, zero, suc, Bool, true, false, not, if◌then◌else◌, List, [], ◌∷◌, ◌++◌, length, filter, get_or, slice_get, Option, Some, None, refl, sym, ap, ◌∙◌, arith}
+use Rattle.std.proofs.Common.{◌≡◌, ℕ, zero, suc, Bool, true, false, not, if◌then◌else◌, List, [], ◌∷◌, ◌++◌, length, filter, get_or, slice_get, Some, None, refl, sym, ap, ◌∙◌, arith}
 use Rattle.std.specs.List.{list_all, list_any}
-use Rattle.std.specs.Option.{option_to_list}
-use Rattle.std.proofs.lemmas.List.{append-nil, get_or_past}
-use Rattle.std.proofs.lemmas.List.Elements.{filter-append}
 use Rattle.central_comms.specs.Places.{places_where}
-use Rattle.central_comms.proofs.PlaceFacts.{places-push, places_kept, any_at_places, count_at_places}
+use Rattle.central_comms.proofs.PlaceFacts.{places-push, any_at_places, count_at_places}
 
 -- One element
 

@@ -1,6 +1,7 @@
 //! The messages and receives of the central registry.
 #![tactic(auto)]
 
+mod firsts;
 mod mail;
 mod messages;
 mod posted;

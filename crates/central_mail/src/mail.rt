@@ -21,8 +21,9 @@ use std::marker::Model;
 /// receives, in the order in which they were posted, with the message that each has taken.
 ///
 /// No message and no receive is ever taken out, but the last by `unsend` and `unpost`. What asks for
-/// unmatched messages or for receives without a message goes through those alone; a message or a receive
-/// with a number is looked for from the first on.
+/// unmatched messages or for receives without a message goes through those alone; the place of a message
+/// or a receive with a number is kept by the number, and only a match goes through those that stand behind
+/// it.
 #[derive(Drop)]
 pub struct Mail {
     messages: Sent,
@@ -176,7 +177,7 @@ impl Mail {
         ensures { result ≡ list_any (may_match (mail_registry comms.now self.now) (get_or self.now.receives place blank_receive)) self.now.messages }
     {
         match self.receives.get(place) {
-            Some(receive) => self.has_match(self.messages.open(), comms, receive),
+            Some(receive) => self.has_match(self.messages.unmatched(), comms, receive),
             None => false,
         }
     }

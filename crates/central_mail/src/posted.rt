@@ -7,31 +7,34 @@ ghost use Rattle.central_comms.specs.Places.{places_where};
 ghost use Rattle.central_mail.specs.Mail.{mail_registry, no_mail};
 ghost use Rattle.central_mail.specs.Rows.{blank_receive, as_posted, taking_if, waits_on};
 
+use crate::firsts;
 use crate::messages::MessageRow;
 use crate::receives::{Receive, ReceiveRow};
-use central_comms::Comms;
+use central_comms::{Comms, Pairs};
 use mpi_base::OutOfMemory;
 use std::alloc::Global;
 use std::marker::Model;
 
-/// The receives that were posted, in order, and the places of those that have taken no message.
+/// The receives that were posted, in order, with the places of those that have taken no message, and by
+/// rank and number the place of the first such receive.
 #[derive(Drop)]
 pub(crate) struct Posted {
     rows: Vec<ReceiveRow>,
     waiting: Vec<usize>,
+    places: Pairs,
 }
 
 impl Model for Posted {
-    ghost use Rattle.std.specs.Prelude.{◌≡◌, List};
+    ghost use Rattle.std.specs.Prelude.{List};
     ghost use Rattle.mpi_law.specs.Registry.State.{Receive as Wanted};
-    ghost use Rattle.mpi_law.specs.Registry.Messages.{is_waiting};
-    ghost use Rattle.central_comms.specs.Places.{places_where};
+    ghost use Rattle.mpi_law.specs.Registry.Messages.{is_receive, is_waiting};
+    ghost use Rattle.central_mail.specs.Indexed.{IsIndexed};
 
     ghost Value = { List Wanted };
 
     ghost view = { λ s. s.rows.items };
 
-    ghost invariant = { λ s. s.waiting.items ≡ places_where is_waiting s.rows.items };
+    ghost invariant = { λ s. IsIndexed is_waiting is_receive s.waiting.items s.places s.rows.items };
 }
 
 /// Whether there is a receive at a place, and it has taken no message.
@@ -102,8 +105,8 @@ fn any_precedes(
 }
 
 /// The receive of a rank with a number takes a message.
-fn take_all(rows: &mut Vec<ReceiveRow>, rank: u16, number: u64, message: &MessageRow)
-    ensures { rows.new.items ≡ map (taking_if rank number message.now) rows.old.items }
+fn take_all(rows: &mut [ReceiveRow], rank: u16, number: u64, message: &MessageRow)
+    ensures { rows.new ≡ map (taking_if rank number message.now) rows.old }
 {
     for row in rows.iter_mut() {
         row.take_if(rank, number, message);
@@ -118,6 +121,7 @@ impl Posted {
         Posted {
             rows: Vec::new(alloc),
             waiting: Vec::new(alloc),
+            places: Pairs::none(alloc),
         }
     }
 
@@ -128,6 +132,12 @@ impl Posted {
     {
         self.rows.reserve(1)?;
         self.waiting.reserve(1)?;
+        firsts::add_last(
+            &mut self.places,
+            receive.rank,
+            receive.number,
+            self.rows.len(),
+        )?;
         self.waiting.push_reserved(self.rows.len());
         self.rows.push_reserved(ReceiveRow::new(receive));
         Ok(())
@@ -137,15 +147,17 @@ impl Posted {
     pub(crate) fn pop(&mut self)
         ensures { self.new ≡ take (length self.old - 1) self.old }
     {
-        self.rows.pop();
-        let_go(&self.rows, &mut self.waiting);
+        if let Some(row) = self.rows.pop() {
+            firsts::let_last_go(&mut self.places, row.rank(), row.number(), self.rows.len());
+            let_go(&self.rows, &mut self.waiting);
+        }
     }
 
     /// The receive of a rank with a number, if there is one.
     pub(crate) fn receive_of(&self, rank: u16, number: u64) -> Option<&ReceiveRow>
         ensures { option_copied result ≡ find (is_receive rank number) self.now }
     {
-        self.rows.iter().find(|row| row.is(rank, number))
+        self.get(self.places.get(rank, number)?)
     }
 
     /// The receive at a place, if there is one.
@@ -182,11 +194,14 @@ impl Posted {
         any_waits(&self.rows, &self.waiting, comm, rank)
     }
 
-    /// The receive of a rank with a number takes a message.
+    /// The receive of a rank with a number takes a message. Only the receives from the first such on are
+    /// gone through; a receive takes a message soon after it is posted, so that few stand behind it.
     pub(crate) fn take(&mut self, rank: u16, number: u64, message: &MessageRow)
         ensures { self.new ≡ map (taking_if rank number message.now) self.old }
     {
-        take_all(&mut self.rows, rank, number, message);
-        let_go(&self.rows, &mut self.waiting);
+        if let Some(place) = self.places.get(rank, number) {
+            take_all(&mut self.rows[place..], rank, number, message);
+            let_go(&self.rows, &mut self.waiting);
+        }
     }
 }

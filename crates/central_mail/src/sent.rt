@@ -7,31 +7,34 @@ ghost use Rattle.central_comms.specs.Places.{places_where};
 ghost use Rattle.central_mail.specs.Mail.{mail_registry, no_mail};
 ghost use Rattle.central_mail.specs.Rows.{blank_message, as_sent, matched_if, dropped_if, dropped_at};
 
+use crate::firsts;
 use crate::messages::{Message, MessageRow};
 use crate::receives::ReceiveRow;
-use central_comms::Comms;
+use central_comms::{Comms, Pairs};
 use mpi_base::OutOfMemory;
 use std::alloc::Global;
 use std::marker::Model;
 
-/// The messages that were sent, in order, and the places of those that are unmatched.
+/// The messages that were sent, in order, with the places of those that are unmatched, and by sender and
+/// number the place of the first such message.
 #[derive(Drop)]
 pub(crate) struct Sent {
     rows: Vec<MessageRow>,
-    open: Vec<usize>,
+    unmatched: Vec<usize>,
+    places: Pairs,
 }
 
 impl Model for Sent {
-    ghost use Rattle.std.specs.Prelude.{◌≡◌, List};
+    ghost use Rattle.std.specs.Prelude.{List};
     ghost use Rattle.mpi_law.specs.Registry.State.{Message as Said};
-    ghost use Rattle.mpi_law.specs.Registry.Messages.{is_unmatched};
-    ghost use Rattle.central_comms.specs.Places.{places_where};
+    ghost use Rattle.mpi_law.specs.Registry.Messages.{is_message, is_unmatched};
+    ghost use Rattle.central_mail.specs.Indexed.{IsIndexed};
 
     ghost Value = { List Said };
 
     ghost view = { λ s. s.rows.items };
 
-    ghost invariant = { λ s. s.open.items ≡ places_where is_unmatched s.rows.items };
+    ghost invariant = { λ s. IsIndexed is_unmatched is_message s.unmatched.items s.places s.rows.items };
 }
 
 /// Whether there is a message at a place, and it is unmatched.
@@ -103,8 +106,8 @@ fn any_overtakes(
 }
 
 /// The message of a sender with a number is matched.
-fn match_all(rows: &mut Vec<MessageRow>, from: u16, number: u64)
-    ensures { rows.new.items ≡ map (matched_if from number) rows.old.items }
+fn match_all(rows: &mut [MessageRow], from: u16, number: u64)
+    ensures { rows.new ≡ map (matched_if from number) rows.old }
 {
     for row in rows.iter_mut() {
         row.match_if(from, number);
@@ -128,7 +131,8 @@ impl Sent {
     {
         Sent {
             rows: Vec::new(alloc),
-            open: Vec::new(alloc),
+            unmatched: Vec::new(alloc),
+            places: Pairs::none(alloc),
         }
     }
 
@@ -138,8 +142,14 @@ impl Sent {
         ensures err { OnErr result (self.new ≡ self.old) }
     {
         self.rows.reserve(1)?;
-        self.open.reserve(1)?;
-        self.open.push_reserved(self.rows.len());
+        self.unmatched.reserve(1)?;
+        firsts::add_last(
+            &mut self.places,
+            message.from,
+            message.number,
+            self.rows.len(),
+        )?;
+        self.unmatched.push_reserved(self.rows.len());
         self.rows.push_reserved(MessageRow::new(message));
         Ok(())
     }
@@ -148,15 +158,17 @@ impl Sent {
     pub(crate) fn pop(&mut self)
         ensures { self.new ≡ take (length self.old - 1) self.old }
     {
-        self.rows.pop();
-        let_go(&self.rows, &mut self.open);
+        if let Some(row) = self.rows.pop() {
+            firsts::let_last_go(&mut self.places, row.from(), row.number(), self.rows.len());
+            let_go(&self.rows, &mut self.unmatched);
+        }
     }
 
     /// The message of a sender with a number, if there is one.
     pub(crate) fn message_of(&self, from: u16, number: u64) -> Option<&MessageRow>
         ensures { option_copied result ≡ find (is_message from number) self.now }
     {
-        self.rows.iter().find(|row| row.is(from, number))
+        self.get(self.places.get(from, number)?)
     }
 
     /// The message at a place, if there is one.
@@ -167,10 +179,10 @@ impl Sent {
     }
 
     /// The places of the unmatched messages, in order.
-    pub(crate) fn open(&self) -> &[usize]
+    pub(crate) fn unmatched(&self) -> &[usize]
         ensures { result.now ≡ places_where is_unmatched self.now }
     {
-        &self.open
+        &self.unmatched
     }
 
     /// Whether there is a message of the sender of a given one on the same communicator, sent earlier and
@@ -183,29 +195,32 @@ impl Sent {
     ) -> bool
         ensures { result ≡ list_any (is_overtaken (mail_registry comms.now no_mail) receive.now message.now) self.now }
     {
-        any_overtakes(&self.rows, &self.open, comms, receive, message)
+        any_overtakes(&self.rows, &self.unmatched, comms, receive, message)
     }
 
     /// How many unmatched messages to a rank there are on a communicator.
     pub(crate) fn left_on(&self, comm: usize, rank: u16) -> u64
         ensures { result ≡ length (filter (is_left_on comm rank) self.now) }
     {
-        left_at(&self.rows, &self.open, comm, rank)
+        left_at(&self.rows, &self.unmatched, comm, rank)
     }
 
-    /// The message of a sender with a number is matched.
+    /// The message of a sender with a number is matched. Only the messages from the first such on are gone
+    /// through; a message is matched soon after it is sent, so that few stand behind it.
     pub(crate) fn match_message(&mut self, from: u16, number: u64)
         ensures { self.new ≡ map (matched_if from number) self.old }
     {
-        match_all(&mut self.rows, from, number);
-        let_go(&self.rows, &mut self.open);
+        if let Some(place) = self.places.get(from, number) {
+            match_all(&mut self.rows[place..], from, number);
+            let_go(&self.rows, &mut self.unmatched);
+        }
     }
 
     /// Drops the unmatched messages to a rank on a communicator.
     pub(crate) fn drop_left(&mut self, comm: usize, rank: u16)
         ensures { self.new ≡ map (dropped_if comm rank) self.old }
     {
-        drop_at(&mut self.rows, &self.open, comm, rank);
-        let_go(&self.rows, &mut self.open);
+        drop_at(&mut self.rows, &self.unmatched, comm, rank);
+        let_go(&self.rows, &mut self.unmatched);
     }
 }

@@ -5,7 +5,7 @@ use Rattle.central_mail.proofs.sent.match_all.Goals as goal
 
 pub loop-row-preserved : goal.loop-row-preserved
 loop-row-preserved c =
-    let within : c.loop-row.row-index < length c.deref_mut-row-items.result.now = omega (arith, c.loop-row-test.true) in
-    ap (λ m. set c.loop-row.row-items c.loop-row.row-index m) c.match_if.ensures
-    ∙ ap (λ m. set c.loop-row.row-items c.loop-row.row-index (matched_if c.args.from c.args.number m)) (sym c.row-item.is)
-    ∙ map_over_more (matched_if c.args.from c.args.number) c.deref_mut-row-items.result.now c.loop-row.row-items c.loop-row.row-index c.row-item.result within c.loop-row.invariant c.row-item.is
+    let within : c.loop-row.row-index < length c.args.rows.now = omega (arith, c.loop-row-test.true) in
+    ap (λ m. set c.loop-row.rows c.loop-row.row-index m) c.match_if.ensures
+    ∙ ap (λ m. set c.loop-row.rows c.loop-row.row-index (matched_if c.args.from c.args.number m)) (sym c.row-item.is)
+    ∙ map_over_more (matched_if c.args.from c.args.number) c.args.rows.now c.loop-row.rows c.loop-row.row-index c.row-item.result within c.loop-row.invariant c.row-item.is

@@ -14,7 +14,7 @@ returns-in-Some c =
     let read = read_some c.self.inside.receives c.args.place blank_receive c.in-Some.receive.now (sym c.get.ensures ∙ ap option_copied c.in-Some.is) in
     c.has_match.ensures
     ∙ any_walked blank_message is_unmatched (may_match (mail_registry c.args.comms.now c.args.self.now) c.in-Some.receive.now) (λ m done. not_to_match m done (mail_registry c.args.comms.now c.args.self.now) c.in-Some.receive.now)
-    c.args.self.now.messages c.args.self.now.messages c.open.result.now refl (c.open.ensures ∙ ap (λ s. places_where is_unmatched s.messages) c.self.view_is)
+    c.args.self.now.messages c.args.self.now.messages c.unmatched.result.now refl (c.unmatched.ensures ∙ ap (λ s. places_where is_unmatched s.messages) c.self.view_is)
     ∙ ap (λ x. list_any (may_match (mail_registry c.args.comms.now c.args.self.now) x) c.args.self.now.messages) (sym read ∙ ap (λ s. get_or s.receives c.args.place blank_receive) c.self.view_is)
 
 pub returns-in-None : goal.returns-in-None

@@ -10,4 +10,4 @@ use Rattle.central_mail.proofs.posted.Posted.has_waiting.Goals as goal
 pub returns : goal.returns
 returns c =
     c.any_waits.ensures ∙ any_walked blank_receive is_waiting (waits_on c.args.comm c.args.rank) (λ x done. not_waiting_on x done c.args.comm c.args.rank) c.deref.result.now c.args.self.now c.deref-2.result.now
-    (c.deref.ensures.value ∙ c.self.view_is) (c.deref-2.ensures.value ∙ c.self.invariant ∙ ap (λ xs. places_where is_waiting xs) c.self.view_is)
+    (c.deref.ensures.value ∙ c.self.view_is) (c.deref-2.ensures.value ∙ c.self.invariant.passing ∙ ap (λ xs. places_where is_waiting xs) c.self.view_is)

@@ -11,4 +11,4 @@ use Rattle.central_mail.proofs.sent.Sent.is_overtaken.Goals as goal
 pub returns : goal.returns
 returns c =
     c.any_overtakes.ensures ∙ any_walked blank_message is_unmatched (is_overtaken (mail_registry c.args.comms.now no_mail) c.args.receive.now c.args.message.now) (λ x done. not_overtaking x done (mail_registry c.args.comms.now no_mail) c.args.receive.now c.args.message.now) c.deref.result.now c.args.self.now c.deref-2.result.now
-    (c.deref.ensures.value ∙ c.self.view_is) (c.deref-2.ensures.value ∙ c.self.invariant ∙ ap (λ xs. places_where is_unmatched xs) c.self.view_is)
+    (c.deref.ensures.value ∙ c.self.view_is) (c.deref-2.ensures.value ∙ c.self.invariant.passing ∙ ap (λ xs. places_where is_unmatched xs) c.self.view_is)

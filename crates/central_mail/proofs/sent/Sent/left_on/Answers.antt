@@ -10,4 +10,4 @@ use Rattle.central_mail.proofs.sent.Sent.left_on.Goals as goal
 pub returns : goal.returns
 returns c =
     c.left_at.ensures ∙ count_walked blank_message is_unmatched (is_left_on c.args.comm c.args.rank) (λ x done. not_left x done c.args.comm c.args.rank) c.deref.result.now c.args.self.now c.deref-2.result.now
-    (c.deref.ensures.value ∙ c.self.view_is) (c.deref-2.ensures.value ∙ c.self.invariant ∙ ap (λ xs. places_where is_unmatched xs) c.self.view_is)
+    (c.deref.ensures.value ∙ c.self.view_is) (c.deref-2.ensures.value ∙ c.self.invariant.passing ∙ ap (λ xs. places_where is_unmatched xs) c.self.view_is)

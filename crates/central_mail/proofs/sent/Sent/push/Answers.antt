@@ -1,7 +1,8 @@
 use Rattle.std.proofs.Common.{◌≡◌, ◌∷◌, ◌++◌, [], length, refl, arith}
 use Rattle.std.proofs.lemmas.Grind.{common_steps}
-use Rattle.mpi_law.specs.Registry.Messages.{is_unmatched}
+use Rattle.mpi_law.specs.Registry.Messages.{is_message, is_unmatched}
 use Rattle.central_mail.specs.Rows.{blank_message, as_sent}
+use Rattle.central_mail.proofs.Indexed.{indexed_pushed}
 use Rattle.central_mail.proofs.Walks.{places_pushed}
 use Rattle.central_mail.proofs.sent.Sent.push.Goals as goal
 
@@ -9,6 +10,10 @@ pub invariant_of-self-2 : goal.invariant_of-self-2
 invariant_of-self-2 c =
     let rows : c.push_reserved-2.new.self.items ≡ c.self.inside.rows.items ++ as_sent c.args.message ∷ [] =
     grind (arith, common_steps, c.push_reserved-2.ensures.items, c.new.ensures, c.in_ok-reserve.ensures.items) in
-    let places : c.push_reserved.new.self.items ≡ c.self.inside.open.items ++ length c.self.inside.rows.items ∷ [] =
-    grind (arith, common_steps, c.push_reserved.ensures.items, c.len.ensures, c.in_ok-reserve.ensures.items, c.in_ok-reserve.ensures.len, c.in_ok-reserve-2.ensures.items) in
-    places_pushed blank_message is_unmatched c.self.inside.rows.items c.push_reserved-2.new.self.items (as_sent c.args.message) c.push_reserved.new.self.items c.self.inside.open.items refl rows c.self.invariant places
+    let places : c.push_reserved.new.self.items ≡ c.self.inside.unmatched.items ++ length c.self.inside.rows.items ∷ [] =
+    grind (arith, common_steps, c.push_reserved.ensures.items, c.len-2.ensures, c.in_ok-reserve.ensures.items, c.in_ok-reserve.ensures.len, c.in_ok-reserve-2.ensures.items) in
+    let last : c.len.result ≡ length c.self.inside.rows.items = grind (arith, common_steps, c.len.ensures, c.in_ok-reserve.ensures.items, c.in_ok-reserve.ensures.len) in
+    indexed_pushed is_unmatched is_message c.self.inside.unmatched.items c.push_reserved.new.self.items c.self.inside.places c.add_last.new.places c.self.inside.rows.items c.push_reserved-2.new.self.items c.self.invariant
+    c.args.message.from c.args.message.number c.len.result (as_sent c.args.message) (λ a b. refl) last rows
+    (places_pushed blank_message is_unmatched c.self.inside.rows.items c.push_reserved-2.new.self.items (as_sent c.args.message) c.push_reserved.new.self.items c.self.inside.unmatched.items refl rows c.self.invariant.passing places)
+    c.in_ok-add_last.ensures.ok
