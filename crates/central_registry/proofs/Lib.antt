@@ -9,3 +9,4 @@ mod SameReplies
 mod CallMoves
 mod Replying
 mod Closing
+mod Journals

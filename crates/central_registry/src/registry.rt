@@ -1,12 +1,12 @@
 //! The registry.
-ghost use Rattle.std.specs.Prelude.{◌≡◌, IfOk, OnErr};
+ghost use Rattle.std.specs.Prelude.{◌≡◌, ◌↔◌, true, IfOk, OnErr};
 ghost use Rattle.mpi_law.specs.Closed.{is_closed};
 ghost use Rattle.mpi_law.specs.Settings.{IsSetting};
 ghost use Rattle.mpi_law.specs.Registry.State.{registry_opening};
 ghost use Rattle.mpi_law.specs.Registry.Runs.{IsRegistryRun, registry_after};
-ghost use Rattle.mpi_protocol.specs.Run.{entry_events};
+ghost use Rattle.mpi_protocol.specs.Run.{entry_events, events_of};
 ghost use Rattle.central_registry.specs.Held.{IsRunning};
-ghost use Rattle.central_registry.specs.Moves.{Moves};
+ghost use Rattle.central_registry.specs.Moves.{Moves, HasMoved};
 
 use crate::tables::Tables;
 use mpi_base::{Act, Entry, OutOfMemory};
@@ -81,6 +81,22 @@ impl Registry {
         ensures err { OnErr result (self.new.state ≡ self.old.state) }
     {
         self.tables.step(self.alloc, &self.setting, entry)
+    }
+
+    /// Moves by the entries of a journal, one after another, up to the first whose events are no steps of
+    /// the registry, and tells whether all are. After an Err it has moved by those before some entry.
+    pub fn try_steps(&mut self, entries: &[Entry]) -> Result<bool, OutOfMemory>
+        ensures setting { self.new.setting ≡ self.old.setting }
+        ensures run { IfOk result (λ all. (all ≡ true) ↔ IsRegistryRun self.old.setting self.old.state (events_of entries.now)) }
+        ensures state { IfOk result (λ all. all ≡ true → self.new.state ≡ registry_after self.old.setting self.old.state (events_of entries.now)) }
+        ensures front { HasMoved self.old.setting self.old.state entries.now self.new.state }
+    {
+        for entry in entries {
+            if !self.try_step(entry)? {
+                return Ok(false);
+            }
+        }
+        Ok(true)
     }
 
     /// Whether nothing but calls beyond the scripts may come. The scripts are of as many ranks as the setting.
