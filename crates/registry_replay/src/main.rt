@@ -42,7 +42,9 @@ fn main(rt: HostRuntime) -> ExitCode {
         Ok(Some(replay)) => {
             let _ = println!(rt;
                 "steps={} all={} closed={}",
-                replay.steps, replay.all, replay.closed
+                replay.journal.len(),
+                replay.all,
+                replay.closed
             );
             ExitCode::SUCCESS
         }
