@@ -9,7 +9,8 @@ use Rattle.mpi_base.proofs.KeyFacts.{same_key_is, same_key-refl}
 use Rattle.agree_law.specs.declared.rows.CreationRow.{CreationRow}
 use Rattle.agree_law.specs.declared.rows.Stage.{Stage}
 use Rattle.agree_law.specs.Part.{stage_of, open_creation, set_stage, close_creation}
-use Rattle.agree_law.specs.Kinds.{is_share, is_split}
+use Rattle.agree_law.specs.Kinds.{is_share}
+use Rattle.agree_law.specs.SplitKeys.{is_split}
 use Rattle.agree_law.specs.World.{is_apart, has_no_split}
 use Rattle.agree_law.proofs.RowFacts.{or_else, stage_of-open, stage_of-set, stage_of-close}
 

@@ -10,11 +10,3 @@ is_share Group = false
 is_share Dup = false
 is_share Split = false
 is_share Share = true
-
--- whether a key of this kind is the creation of a class of a split
-abbrev pub is_split : Kind → Bool
-is_split From = false
-is_split Group = false
-is_split Dup = false
-is_split Split = true
-is_split Share = false

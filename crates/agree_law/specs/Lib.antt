@@ -2,6 +2,7 @@ pub mod Tree
 pub mod Part
 pub mod Packets
 pub mod Kinds
+pub mod SplitKeys
 pub mod Rule
 pub mod Gather
 pub mod Offers

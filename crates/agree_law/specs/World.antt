@@ -9,7 +9,8 @@ use Rattle.agree_law.specs.declared.rows.Stage.TheVariants.{Sharing, Called, Wai
 use Rattle.agree_law.specs.declared.rows.CreationRow.{CreationRow}
 use Rattle.agree_law.specs.Part.{Agree, fresh, stage_of}
 use Rattle.agree_law.specs.Packets.{Packet, Sent, Moved}
-use Rattle.agree_law.specs.Kinds.{is_share, is_split}
+use Rattle.agree_law.specs.Kinds.{is_share}
+use Rattle.agree_law.specs.SplitKeys.{is_split}
 use Rattle.agree_law.specs.Offers.{may_offer, begin, make_offer}
 use Rattle.agree_law.specs.Shares.{begin_share}
 use Rattle.agree_law.specs.Moves.{may_settle, settle, deliver, give_back, close}

@@ -6,7 +6,8 @@ use Rattle.std.proofs.Math.Seq.{take-set-lt}
 use Rattle.std.proofs.lemmas.Bool.Decides.{nat_tests}
 use Rattle.std.proofs.lemmas.List.{take-replicate, get_or-take}
 use Rattle.std.proofs.lemmas.List.FromFn.{take-map-range_with_len}
-use Rattle.ctx_mask.specs.Masks.{both, none_of, full_of, least_true}
+use Rattle.ctx_mask.specs.Masks.{both, none_of, full_of}
+use Rattle.ctx_mask.specs.Least.{least_true}
 use Rattle.ctx_mask.proofs.MaskFacts.{least_true_is, least_true_nowhere}
 use Rattle.and_reduce.specs.Fronts.{front}
 

@@ -7,7 +7,8 @@ use Rattle.std.proofs.lemmas.List.{take_more, map-append, get_or_past}
 use Rattle.std.proofs.lemmas.Bool.Decides.{nat_tests}
 use Rattle.mpi_base.specs.declared.keys.Key.{Key}
 use Rattle.mpi_base.specs.Keys.{same_key}
-use Rattle.ctx_mask.specs.Masks.{both, full_of, least_true}
+use Rattle.ctx_mask.specs.Masks.{both, full_of}
+use Rattle.ctx_mask.specs.Least.{least_true}
 use Rattle.ctx_mask.proofs.MaskFacts.{get_or-both, get_or-full_of, length-full_of}
 use Rattle.agree_law.specs.Tree.{is_child, children_of}
 use Rattle.agree_law.specs.Part.{Offer, drop_offers}

@@ -14,7 +14,7 @@ ghost use Rattle.mpi_law.specs.Splits.{has_colour, split_class};
 ghost use Rattle.mpi_law.specs.Registry.State.{Message, Receive, Creating, place_in, thread_of};
 ghost use Rattle.mpi_law.specs.Registry.Messages.{message_of, receive_of};
 ghost use Rattle.mpi_law.specs.Registry.Creations.{has_called, all_called, is_uncoloured};
-ghost use Rattle.mpi_law.specs.Registry.Contexts.{LiveApart};
+ghost use Rattle.mpi_law.specs.Registry.Apart.{LiveApart};
 ghost use Rattle.mpi_law.specs.Registry.Events.{Event};
 ghost use Rattle.answer_law.specs.Answers.{IsRun, registry_at, Answer, CalledLast, HasCalled, creation_in, group_of_answer, WasFree, NoneWasFree};
 ghost use Rattle.answer_law.specs.Places.{comes_before};

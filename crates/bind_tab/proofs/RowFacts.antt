@@ -7,7 +7,9 @@ use Rattle.local_law.proofs.Renamed.{bound_of-renamed, unbind-renamed, rebind-re
 use Rattle.local_law.specs.Objects as objects
 use Rattle.bind_tab.specs.declared.bound.Bound.{Bound}
 use Rattle.bind_tab.specs.Rows.{seen}
-use Rattle.local_law.specs.Names.{Rows, bound_of, rebind, unbind, unbind_all, renamed_rows, AreDistinct}
+use Rattle.local_law.specs.Names.{Rows, bound_of, rebind, unbind, unbind_all}
+use Rattle.local_law.specs.Renaming.{renamed_rows}
+use Rattle.local_law.specs.NameFacts.{AreDistinct}
 
 lookup_is : (rows : Rows Bound) (name : List ℕ) → lookup (bytes_eq name) rows ≡ bound_of rows name
 lookup_is [] name = refl

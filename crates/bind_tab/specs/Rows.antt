@@ -1,6 +1,7 @@
 -- The names of a rank, as contracts see them.
 use Rattle.std.specs.Prelude.{ℕ, ◌==◌, Bool, Option}
-use Rattle.local_law.specs.Names.{Rows, unbind_all, left_of}
+use Rattle.local_law.specs.Names.{Rows, unbind_all}
+use Rattle.local_law.specs.NameFacts.{left_of}
 use Rattle.local_law.specs.Objects as objects
 use Rattle.bind_tab.specs.declared.bound.Bound.{Bound}
 use Rattle.bind_tab.specs.declared.bound.Bound.TheVariants.{Reserved, Session, Group, Comm, Request}

@@ -1,7 +1,8 @@
 //! The table of names.
 ghost use Rattle.std.specs.Prelude.{◌≡◌, ◌≤◌, ◌+◌, not, is_some, if◌then◌else◌, [], None, Some, OnOk, option_copied, option_map};
 ghost use Rattle.std.specs.Bool.{OnFalse, OnTrue};
-ghost use Rattle.local_law.specs.Names.{bound_of, bind, rebind, unbind, AreDistinct};
+ghost use Rattle.local_law.specs.Names.{bound_of, bind, rebind, unbind};
+ghost use Rattle.local_law.specs.NameFacts.{AreDistinct};
 ghost use Rattle.local_law.specs.Objects as objects;
 ghost use Rattle.bind_tab.specs.Rows.{unbind_session, is_of, seen};
 

@@ -1,6 +1,7 @@
 //! What the changes of rows say of the names, one by one.
 ghost use Rattle.std.specs.Prelude.{◌≡◌, ℕ, List, Some, None, false, IsSome, bytes_eq};
-ghost use Rattle.local_law.specs.Names.{Rows, bound_of, bind, rebind, unbind, AreDistinct};
+ghost use Rattle.local_law.specs.Names.{Rows, bound_of, bind, rebind, unbind};
+ghost use Rattle.local_law.specs.NameFacts.{AreDistinct};
 ghost use Rattle.local_law.specs.Objects.{Bound as AnyBound};
 ghost use Rattle.bind_tab.specs.Rows.{unbind_session, without};
 

@@ -1,6 +1,7 @@
 //! The objects of a rank.
 ghost use Rattle.std.specs.Prelude.{◌≡◌, ◌≤◌, ◌<◌, ◌+◌, ◌-◌, ◌^◌, ◌==◌, None, OnOk, option_copied, option_map};
-ghost use Rattle.local_law.specs.Names.{bound_of, bind, rebind, unbind, AreDistinct};
+ghost use Rattle.local_law.specs.Names.{bound_of, bind, rebind, unbind};
+ghost use Rattle.local_law.specs.NameFacts.{AreDistinct};
 ghost use Rattle.local_law.specs.Objects as objects;
 ghost use Rattle.local_law.specs.Objects.{no_objects, open_session, close_session};
 ghost use Rattle.bind_tab.specs.Held.{with_names};

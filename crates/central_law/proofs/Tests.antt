@@ -20,7 +20,8 @@ use Rattle.mpi_law.proofs.Decided.{allowed_when, when_allowed}
 use Rattle.central_law.specs.Rest.{AtRest}
 use Rattle.central_law.specs.Within.{posted_state}
 use Rattle.central_law.specs.Fits.{MatchFits, PickFits, BackFits, CallFits}
-use Rattle.central_law.specs.Tests.{match_test, can_pick, is_taken, pick_test, can_return, back_test, call_test}
+use Rattle.central_law.specs.Tests.{match_test, pick_test, back_test, call_test}
+use Rattle.mpi_law.specs.Registry.Tests.{can_pick, is_taken, can_return}
 use Rattle.central_law.proofs.Lists.{first_of_two, second_of_two, two}
 
 below : (a b : ℕ) → nat_lt a b ≡ true → a < b

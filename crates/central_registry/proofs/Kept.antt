@@ -10,7 +10,8 @@ use Rattle.mpi_law.specs.Registry.State.{Registry, Communicator, Message, Receiv
 use Rattle.mpi_law.specs.Registry.Messages.{fits, is_overtaken, is_preceded, may_match, receive_of, message_of}
 use Rattle.mpi_law.specs.Registry.Calls.{with_freed, is_kept, freed_all}
 use Rattle.central_law.specs.After.{comms_after, creations_after}
-use Rattle.central_law.specs.Tests.{can_take, match_test}
+use Rattle.central_law.specs.Tests.{match_test}
+use Rattle.mpi_law.specs.Registry.Tests.{can_take}
 
 -- the registry with the communicators and creations as the call leaves them
 abbrev pub changed_state : Registry → ℕ → ℕ → Effect ℕ → Registry

@@ -11,7 +11,7 @@ use Rattle.mpi_law.specs.Registry.Contexts.{key_place}
 use Rattle.mpi_law.specs.Registry.Events.{after_pick}
 use Rattle.mpi_law.specs.Registry.Runs.{MayPick, AllInUse}
 use Rattle.central_law.specs.Rest.{AtRest}
-use Rattle.central_law.specs.Tests.{can_pick, is_taken}
+use Rattle.mpi_law.specs.Registry.Tests.{can_pick, is_taken}
 use Rattle.central_law.proofs.Tests.{pick_tests}
 use Rattle.central_registry.specs.Moves.{Moves}
 

@@ -9,7 +9,7 @@ ghost use Rattle.mpi_law.specs.Registry.Contexts.{comm_of, key_place, stands_for
 ghost use Rattle.mpi_law.specs.Registry.Events.{after_pick};
 ghost use Rattle.mpi_law.specs.Registry.Runs.{MayPick, AllInUse};
 ghost use Rattle.central_law.specs.Rest.{AtRest};
-ghost use Rattle.central_law.specs.Tests.{can_pick, is_taken};
+ghost use Rattle.mpi_law.specs.Registry.Tests.{can_pick, is_taken};
 ghost use Rattle.central_law.specs.Fits.{PickFits};
 ghost use Rattle.central_law.specs.After.{picked_state};
 ghost use Rattle.central_registry.specs.Moves.{Moves};

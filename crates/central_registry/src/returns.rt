@@ -5,7 +5,7 @@ ghost use Rattle.mpi_law.specs.Registry.State.{comm_at};
 ghost use Rattle.mpi_law.specs.Registry.Creations.{has_open_under};
 ghost use Rattle.std.specs.Prelude.{Some, ◌≡◌, IfOk, OnErr};
 ghost use Rattle.central_law.specs.Rest.{AtRest};
-ghost use Rattle.central_law.specs.Tests.{can_return};
+ghost use Rattle.mpi_law.specs.Registry.Tests.{can_return};
 ghost use Rattle.central_law.specs.Fits.{BackFits};
 ghost use Rattle.central_law.specs.After.{returned_state};
 ghost use Rattle.central_registry.specs.Moves.{Moves};

@@ -13,7 +13,8 @@ use Rattle.mpi_law.specs.declared.effects.Origin.TheVariants.{Grouped, Duplicate
 use Rattle.mpi_law.specs.declared.effects.Effect.{Effect}
 use Rattle.mpi_law.specs.declared.effects.Effect.TheVariants.{Says, Opens, Groups, Ungroups, Joins, Frees, Ends, Sends, Receives, Posts, NullPosts, Completes, Awaits}
 use Rattle.agree_law.specs.Packets as agree
-use Rattle.agree_law.specs.Kinds.{is_share, is_split}
+use Rattle.agree_law.specs.Kinds.{is_share}
+use Rattle.agree_law.specs.SplitKeys.{is_split}
 use Rattle.agree_law.specs.Part.{stage_of}
 use Rattle.agree_law.specs.Shares.{share_list}
 use Rattle.agree_law.specs.World.{Begin_share}

@@ -17,6 +17,7 @@ use Rattle.agree_law.specs.declared.rows.Stage.TheVariants.{Sharing, Called, Wai
 use Rattle.agree_law.specs.Tree.{place_in}
 use Rattle.agree_law.specs.Part.{stage_of}
 use Rattle.agree_law.specs.Kinds as agree_kind
+use Rattle.agree_law.specs.SplitKeys as agree_split
 use Rattle.agree_law.specs.World as agreement
 use Rattle.agree_law.specs.World.{Event, is_key_of, run}
 use Rattle.agree_law.proofs.TreeFacts.{member_place}
@@ -167,10 +168,10 @@ module _ (s : Setting) (w : World) (es : List Event) (due : Dues) (g : Registry)
         go a e f = absurd f
 
 -- a key that stands for a split, and is of no class of it, is of its exchange
-pub exchange_of : (comms : List Communicator) (r : ℕ) (key : Key) (name : CreationName) → stands_for comms r key ≡ Some name → is_split name ≡ true → agree_kind.is_split key.kind ≡ false → is_exchange key.kind ≡ true
+pub exchange_of : (comms : List Communicator) (r : ℕ) (key : Key) (name : CreationName) → stands_for comms r key ≡ Some name → is_split name ≡ true → agree_split.is_split key.kind ≡ false → is_exchange key.kind ≡ true
 exchange_of comms r key name e split plain = go (standing comms r key name e)
   where
-    by : (k : Kind) (p : ℕ) → is_split (name_on key k p) ≡ true → agree_kind.is_split k ≡ false → is_exchange k ≡ true
+    by : (k : Kind) (p : ℕ) → is_split (name_on key k p) ≡ true → agree_split.is_split k ≡ false → is_exchange k ≡ true
     by kind.From p a b = absurd (cc (a))
     by kind.Group p a b = absurd (cc (a))
     by kind.Dup p a b = absurd (cc (a))

@@ -25,7 +25,8 @@ use Rattle.mpi_protocol.specs.Step.{is_enabled}
 use Rattle.mpi_protocol.specs.World.{World, opening, rank_at, link, moved, may_happen}
 use Rattle.mpi_protocol.specs.Run.{RunsFrom, IsProtocolRun}
 use Rattle.projection_law.specs.Events.{opening_events, call_events, decided_events, answer_events, packet_events, events_at, agreement_events}
-use Rattle.projection_law.specs.Premises.{SetsAreOfRanks, NamesAreKnownFrom, CallersNamesAreKnown}
+use Rattle.projection_law.specs.Premises.{SetsAreOfRanks}
+use Rattle.projection_law.specs.KnownNames.{NamesAreKnownFrom, CallersNamesAreKnown}
 use Rattle.projection_law.specs.Facts.{EachMayHappen}
 use Rattle.projection_law.proofs.BothTests.{right_of}
 use Rattle.projection_law.proofs.Projected.{same_part, agreement_taken}

@@ -21,7 +21,8 @@ use Rattle.mpi_protocol.specs.Step.{is_enabled}
 use Rattle.mpi_protocol.specs.World.{World, opening, rank_at, link, head_for, moved, may_happen}
 use Rattle.mpi_protocol.specs.Run.{RunsFrom, IsProtocolRun, end_of}
 use Rattle.projection_law.specs.Events.{events_at, agreement_events}
-use Rattle.projection_law.specs.Premises.{SetsAreOfRanks, NamesAreKnownFrom, CallersNamesAreKnown}
+use Rattle.projection_law.specs.Premises.{SetsAreOfRanks}
+use Rattle.projection_law.specs.KnownNames.{NamesAreKnownFrom, CallersNamesAreKnown}
 use Rattle.projection_law.proofs.BothTests.{right_of}
 use Rattle.projection_law.proofs.Runs.{Projected, run-append, mirrored}
 use Rattle.projection_law.proofs.SoundRuns.{Follows, act_fits, follows-opening, follows-moved, runs_follow}

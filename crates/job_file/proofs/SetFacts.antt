@@ -12,7 +12,8 @@ use Rattle.toml.specs.Data.{Data, Items, no_items, item, Members, no_members, me
 use Rattle.toml.specs.View.{view, items_view, members_view}
 use Rattle.toml.specs.declared.value.Value.{Value}
 use Rattle.toml.proofs.Views.{Entry, items_view-drop}
-use Rattle.pset_reg.specs.Sets.{NamedSet, ProcessSets, first_sets, world_name, self_name, names, has_set}
+use Rattle.pset_reg.specs.Sets.{NamedSet, ProcessSets, first_sets, world_name, self_name, names}
+use Rattle.pset_reg.specs.HeldSets.{has_set}
 use Rattle.token_text.specs.declared.faults.TokenFault.{TokenFault}
 use Rattle.token_text.specs.Forms.{fault_of}
 use Rattle.token_text.specs.Texts.{pset_name_form}

@@ -4,7 +4,8 @@ use Rattle.std.proofs.lemmas.List.Sums.{sum_by-cons}
 use Rattle.mpi_base.specs.declared.ops.Op.{Op}
 use Rattle.mpi_base.specs.declared.ops.Op.TheVariants as op
 use Rattle.mpi_base.specs.declared.messages.SrcArg.TheVariants.{At}
-use Rattle.mpi_law.specs.ScriptLists.{AllScripts, with_op, total_of}
+use Rattle.mpi_law.specs.ScriptLists.{AllScripts, total_of}
+use Rattle.mpi_law.specs.HeldScripts.{with_op}
 use Rattle.job_gen.specs.declared.parts.Part.{Part}
 use Rattle.job_gen.specs.declared.parts.Part.TheVariants.{Start, Duplicate, Split, Message, Create, End}
 use Rattle.job_gen.specs.Parts.{whole, if_rank, ops_in}

@@ -1,7 +1,8 @@
 -- Scripts to which operations were added.
 use Rattle.std.specs.Prelude.{ℕ, zero, suc, List, [], ◌∷◌}
 use Rattle.mpi_base.specs.declared.ops.Op.{Op}
-use Rattle.mpi_law.specs.ScriptLists.{AllScripts, with_op}
+use Rattle.mpi_law.specs.ScriptLists.{AllScripts}
+use Rattle.mpi_law.specs.HeldScripts.{with_op}
 use Rattle.job_gen.specs.declared.parts.Part.{Part}
 use Rattle.job_gen.specs.Parts.{ops_in}
 

@@ -5,7 +5,8 @@ use Rattle.std.specs.List.{list_any}
 use Rattle.std.proofs.lemmas.Bool.Decides.{nat_tests}
 use Rattle.mpi_base.specs.declared.messages.Msg.{Msg}
 use Rattle.match_law.specs.declared.rows.Posted.{Posted}
-use Rattle.match_law.specs.Box.{fits, allows, arrive, arrived, receive_for, post, posted_to, without_first, posted_on, kept_on, drop_ctx}
+use Rattle.match_law.specs.Box.{fits, allows, arrive, arrived, receive_for, post, posted_to, without_first, kept_on, drop_ctx}
+use Rattle.match_law.specs.Tallies.{posted_on}
 use Rattle.match_box.specs.declared.queue.Queue.{Queue}
 use Rattle.match_box.specs.declared.node.Head.{Head}
 use Rattle.match_box.specs.Rows.{Row, row, AllOf, same_queue, takes, meets, spot, head_of, on, off, first_of, without_first_of}

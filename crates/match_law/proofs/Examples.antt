@@ -2,7 +2,8 @@
 use Rattle.std.proofs.Common.{◌≡◌, ℕ, [], ◌∷◌, Option, Some, None, refl}
 use Rattle.mpi_base.specs.declared.messages.Msg.{Msg}
 use Rattle.match_law.specs.declared.rows.Posted.{Posted}
-use Rattle.match_law.specs.Box.{arrive, post, posted_on, kept_on, drop_ctx}
+use Rattle.match_law.specs.Box.{arrive, post, kept_on, drop_ctx}
+use Rattle.match_law.specs.Tallies.{posted_on}
 
 -- messages of one sender, with a number and a tag, to a communicator with context 1
 abbrev message : ℕ → ℕ → Msg

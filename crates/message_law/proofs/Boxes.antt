@@ -5,7 +5,7 @@ use Rattle.std.proofs.lemmas.Bool.Decides.{nat_tests}
 use Rattle.mpi_base.specs.declared.messages.Msg.{Msg}
 use Rattle.mpi_law.specs.declared.setting.Setting.{Setting}
 use Rattle.mpi_law.specs.Registry.State.{Registry}
-use Rattle.mpi_law.specs.Registry.Contexts.{LiveApart}
+use Rattle.mpi_law.specs.Registry.Apart.{LiveApart}
 use Rattle.mpi_law.specs.Registry.Messages.{after_match}
 use Rattle.mpi_law.specs.Registry.Events.{Event, Matches, registry_next}
 use Rattle.mpi_law.specs.Registry.Runs.{MayMatch, IsRegistryRun, registry_after}

@@ -7,7 +7,7 @@ use Rattle.mpi_base.specs.declared.entries.Act.TheVariants.{Deliver}
 use Rattle.mpi_base.specs.declared.entries.Choice.{Choice}
 use Rattle.mpi_law.specs.declared.setting.Setting.{Setting}
 use Rattle.mpi_law.specs.Registry.State.{Registry}
-use Rattle.mpi_law.specs.Registry.Contexts.{LiveApart}
+use Rattle.mpi_law.specs.Registry.Apart.{LiveApart}
 use Rattle.mpi_law.specs.Registry.Events.{Event}
 use Rattle.mpi_law.specs.Registry.Runs.{IsRegistryRun, registry_after}
 use Rattle.match_law.specs.declared.rows.Posted.{Posted}

@@ -9,7 +9,8 @@ use Rattle.mpi_base.specs.declared.entries.Choice.{Choice}
 use Rattle.mpi_law.specs.declared.setting.Setting.{Setting}
 use Rattle.mpi_law.specs.Registry.State.{Registry, blank_comm, comm_at, is_between_calls}
 use Rattle.mpi_law.specs.Registry.Creations.{has_open_under}
-use Rattle.mpi_law.specs.Registry.Contexts.{is_live_at, comm_of, LiveApart}
+use Rattle.mpi_law.specs.Registry.Contexts.{is_live_at, comm_of}
+use Rattle.mpi_law.specs.Registry.Apart.{LiveApart}
 use Rattle.mpi_law.specs.Registry.Events.{Backs, registry_next}
 use Rattle.mpi_law.specs.Registry.Runs.{MayBack, registry_after}
 use Rattle.match_law.specs.Box.{has_posted, kept_on, drop_ctx}

@@ -6,7 +6,7 @@ use Rattle.std.specs.Option.{option_map}
 use Rattle.std.proofs.lemmas.Bool.Decides.{nat_tests}
 use Rattle.mpi_base.specs.declared.messages.Msg.{Msg}
 use Rattle.mpi_law.specs.Registry.State.{Registry, Message, Receive, Matched}
-use Rattle.mpi_law.specs.Registry.Contexts.{LiveApart}
+use Rattle.mpi_law.specs.Registry.Apart.{LiveApart}
 use Rattle.mpi_law.specs.Registry.Messages.{is_waiting, fits as fits_by_place, may_match, is_overtaken, is_preceded, receive_of, message_of, with_fate, taking, after_match, is_receive, is_message}
 use Rattle.mpi_law.specs.Registry.Runs.{MayMatch}
 use Rattle.match_law.specs.declared.rows.Posted.{Posted}

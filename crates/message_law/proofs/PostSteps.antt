@@ -10,7 +10,7 @@ use Rattle.mpi_law.specs.declared.setting.Setting.{Setting}
 use Rattle.mpi_law.specs.Local.Objects.{Local}
 use Rattle.mpi_law.specs.declared.effects.Receiving.{Receiving}
 use Rattle.mpi_law.specs.Registry.State.{Registry, RankPart, Receive, comm_at}
-use Rattle.mpi_law.specs.Registry.Contexts.{LiveApart}
+use Rattle.mpi_law.specs.Registry.Apart.{LiveApart}
 use Rattle.mpi_law.specs.Registry.Calls.{receive_of_call}
 use Rattle.mpi_law.specs.Registry.Runs.{registry_after}
 use Rattle.match_law.specs.declared.rows.Posted.{Posted}

@@ -6,7 +6,7 @@ use Rattle.std.specs.List.{list_all, list_any, range_with_len, flat_map}
 use Rattle.std.proofs.lemmas.Bool.Decides.{nat_tests}
 use Rattle.std.proofs.lemmas.Slice.Eq.{bytes_eq-Decides}
 use Rattle.mpi_base.specs.MemberLists.{has_rank}
-use Rattle.mpi_base.specs.Classes.{number_of}
+use Rattle.mpi_base.specs.ClassNumbers.{number_of}
 use Rattle.mpi_base.specs.declared.groups.RankOut.{RankOut}
 use Rattle.mpi_base.specs.declared.groups.RankOut.TheVariants as rank_out
 use Rattle.mpi_base.specs.declared.groups.Likeness.{Likeness}
@@ -22,6 +22,7 @@ use Rattle.mpi_law.specs.Registry.State.{Registry, Message, Receive, Outcome, th
 use Rattle.mpi_law.specs.Registry.Creations.{all_called, class_of, outcome_for, has_open_under}
 use Rattle.mpi_law.specs.Registry.Contexts.{in_use, comm_of, is_exchange, key_place}
 use Rattle.mpi_law.specs.Registry.Messages.{may_match, receive_of, message_of, left_on, has_waiting}
+use Rattle.mpi_law.specs.Registry.Tests.{can_take, can_pick, is_taken, can_return}
 use Rattle.mpi_law.specs.Registry.Calls.{effect_at, to_send, to_post}
 use Rattle.mpi_law.specs.Registry.Replies.{owed}
 use Rattle.mpi_law.specs.Registry.Events.{Event, Calls, Sends, Posts, Picks, Matches, Backs, Replies, registry_next}
@@ -70,27 +71,11 @@ same_truth true b = b
 same_truth false b = not b
 
 abbrev may_pick : Registry → ℕ → Key → Bool
-may_pick g r key =
-    is_between_calls g && (not (is_exchange key.kind)
-    && (nat_lt (key_place g r key) (length g.creations)
-    && (all_called (creation_at g (key_place g r key))
-    && (has_rank key.members r
-    && (bytes_eq (class_of (creation_at g (key_place g r key)) r) key.members
-    && is_none (outcome_for (creation_at g (key_place g r key)) r))))))
-
-abbrev used_by : Registry → Key → ℕ → Bool
-used_by g key c = list_any (λ m. in_use g.comms m c) key.members
-
-abbrev may_take : Registry → Option Receive → Option Message → Bool
-may_take g None m = false
-may_take g (Some x) None = false
-may_take g (Some x) (Some m) = may_match g x m
+may_pick g r key = is_between_calls g && can_pick g r key
 
 abbrev may_back : Registry → ℕ → ℕ → Option ℕ → Bool
 may_back g r dropped None = false
-may_back g r dropped (Some p) =
-    is_between_calls g && (list_all (has_rank (comm_at g p).freed) (comm_at g p).members
-    && (not (list_any (has_open_under g p) (comm_at g p).members) && (not (has_waiting g p r) && (dropped == left_on g p r))))
+may_back g r dropped (Some p) = is_between_calls g && can_return g r dropped (Some p)
 
 abbrev pub is_allowed : Setting → Registry → Event → Bool
 is_allowed s g (Calls r t op now) =
@@ -98,9 +83,9 @@ is_allowed s g (Calls r t op now) =
     && (nat_lt r s.ranks && (nat_lt t THREADS && (is_idle_wait (thread_of g r t).wait && same_truth now (is_said (effect_at s g r op)))))
 is_allowed s g (Sends r t) = is_some (to_send (thread_of g r t).wait)
 is_allowed s g (Posts r t) = is_some (to_post (thread_of g r t).wait)
-is_allowed s g (Picks r key (Some c)) = may_pick g r key && (nat_le 1 c && (nat_le c s.contexts && not (used_by g key c)))
-is_allowed s g (Picks r key None) = may_pick g r key && list_all (used_by g key) (range_with_len 1 s.contexts)
-is_allowed s g (Matches r number from sent) = may_take g (receive_of g r number) (message_of g from sent)
+is_allowed s g (Picks r key (Some c)) = may_pick g r key && (nat_le 1 c && (nat_le c s.contexts && not (is_taken g key c)))
+is_allowed s g (Picks r key None) = may_pick g r key && list_all (is_taken g key) (range_with_len 1 s.contexts)
+is_allowed s g (Matches r number from sent) = can_take g (receive_of g r number) (message_of g from sent)
 is_allowed s g (Backs r c dropped) = may_back g r dropped (comm_of g.comms r c)
 is_allowed s g (Replies r t said) = bytes_eq (numbers_of (owed g r t)) (reply_numbers said)
 
@@ -264,12 +249,12 @@ when_may_back g r c dropped m =
     (both a (not b && (not w && d)) m.freed
     (both (not b) (not w && d) (not_false b m.settled) (both (not w) d (not_false w m.complete) (grind (arith, nat_tests, n))))))
 
-may_take_when : (g : Registry) (r number from sent : ℕ) (x : Option Receive) (m : Option Message) → receive_of g r number ≡ x → message_of g from sent ≡ m → may_take g x m ≡ true → MayMatch g r number from sent
+may_take_when : (g : Registry) (r number from sent : ℕ) (x : Option Receive) (m : Option Message) → receive_of g r number ≡ x → message_of g from sent ≡ m → can_take g x m ≡ true → MayMatch g r number from sent
 may_take_when g r number from sent None m e f h = absurd (cc (h))
 may_take_when g r number from sent (Some x) None e f h = absurd (cc (h))
 may_take_when g r number from sent (Some x) (Some m) e f h = record { receive = x; message = m; posted = e; sent_there = f; first = h }
 
-when_may_take : (g : Registry) (r number from sent : ℕ) → MayMatch g r number from sent → may_take g (receive_of g r number) (message_of g from sent) ≡ true
+when_may_take : (g : Registry) (r number from sent : ℕ) → MayMatch g r number from sent → can_take g (receive_of g r number) (message_of g from sent) ≡ true
 when_may_take g r number from sent m = rw (m.posted, m.sent_there) m.first
 
 due_when : {A : Type 0} → (o : Option A) → is_some o ≡ true → (x : A) × (o ≡ Some x)
@@ -314,20 +299,20 @@ allowed_when s g (Sends r t) h o = let due = due_when (to_send (thread_of g r t)
 allowed_when s g (Posts r t) h o = let due = due_when (to_post (thread_of g r t).wait) h in record { receive = due.0; due = due.1 }
 allowed_when s g (Picks r key (Some c)) h o =
     let a = may_pick g r key in
-    let after = rest a (nat_le 1 c && (nat_le c s.contexts && not (used_by g key c))) h in
-    let below = rest (nat_le 1 c) (nat_le c s.contexts && not (used_by g key c)) after in (
-      may_pick_when g r key (first a (nat_le 1 c && (nat_le c s.contexts && not (used_by g key c))) h),
+    let after = rest a (nat_le 1 c && (nat_le c s.contexts && not (is_taken g key c))) h in
+    let below = rest (nat_le 1 c) (nat_le c s.contexts && not (is_taken g key c)) after in (
+      may_pick_when g r key (first a (nat_le 1 c && (nat_le c s.contexts && not (is_taken g key c))) h),
       record {
-        above = up_to 1 c (first (nat_le 1 c) (nat_le c s.contexts && not (used_by g key c)) after);
-        below = up_to c s.contexts (first (nat_le c s.contexts) (not (used_by g key c)) below);
-        unused = not_true (used_by g key c) (rest (nat_le c s.contexts) (not (used_by g key c)) below);
+        above = up_to 1 c (first (nat_le 1 c) (nat_le c s.contexts && not (is_taken g key c)) after);
+        below = up_to c s.contexts (first (nat_le c s.contexts) (not (is_taken g key c)) below);
+        unused = not_true (is_taken g key c) (rest (nat_le c s.contexts) (not (is_taken g key c)) below);
       },
     )
 allowed_when s g (Picks r key None) h o =
     let a = may_pick g r key in
-    let each = rest a (list_all (used_by g key) (range_with_len 1 s.contexts)) h in (
-      may_pick_when g r key (first a (list_all (used_by g key) (range_with_len 1 s.contexts)) h),
-      λ c lo hi. all_in (used_by g key) 1 s.contexts c each lo (omega (arith, hi)),
+    let each = rest a (list_all (is_taken g key) (range_with_len 1 s.contexts)) h in (
+      may_pick_when g r key (first a (list_all (is_taken g key) (range_with_len 1 s.contexts)) h),
+      λ c lo hi. all_in (is_taken g key) 1 s.contexts c each lo (omega (arith, hi)),
     )
 allowed_when s g (Matches r number from sent) h o = may_take_when g r number from sent (receive_of g r number) (message_of g from sent) refl refl h
 allowed_when s g (Backs r c dropped) h o = may_back_when g r c dropped (comm_of g.comms r c) refl h
@@ -338,12 +323,12 @@ when_allowed s g (Calls r t op now) m = when_may_call s g r t op now m
 when_allowed s g (Sends r t) m = when_due (to_send (thread_of g r t).wait) m.message m.due
 when_allowed s g (Posts r t) m = when_due (to_post (thread_of g r t).wait) m.receive m.due
 when_allowed s g (Picks r key (Some c)) m =
-    both (may_pick g r key) (nat_le 1 c && (nat_le c s.contexts && not (used_by g key c))) (when_may_pick g r key m.0)
-    (both (nat_le 1 c) (nat_le c s.contexts && not (used_by g key c)) (is_up_to 1 c m.1.above)
-    (both (nat_le c s.contexts) (not (used_by g key c)) (is_up_to c s.contexts m.1.below) (not_false (used_by g key c) m.1.unused)))
+    both (may_pick g r key) (nat_le 1 c && (nat_le c s.contexts && not (is_taken g key c))) (when_may_pick g r key m.0)
+    (both (nat_le 1 c) (nat_le c s.contexts && not (is_taken g key c)) (is_up_to 1 c m.1.above)
+    (both (nat_le c s.contexts) (not (is_taken g key c)) (is_up_to c s.contexts m.1.below) (not_false (is_taken g key c) m.1.unused)))
 when_allowed s g (Picks r key None) m =
-    both (may_pick g r key) (list_all (used_by g key) (range_with_len 1 s.contexts)) (when_may_pick g r key m.0)
-    (in_all (used_by g key) 1 s.contexts (λ c lo hi. m.1 c lo (omega (arith, hi))))
+    both (may_pick g r key) (list_all (is_taken g key) (range_with_len 1 s.contexts)) (when_may_pick g r key m.0)
+    (in_all (is_taken g key) 1 s.contexts (λ c lo hi. m.1 c lo (omega (arith, hi))))
 when_allowed s g (Matches r number from sent) m = when_may_take g r number from sent m
 when_allowed s g (Backs r c dropped) m = when_may_back g r c dropped m
 when_allowed s g (Replies r t said) m = (bytes_eq-Decides (numbers_of (owed g r t)) (reply_numbers said)).1 (ap numbers_of m)

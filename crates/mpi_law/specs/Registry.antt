@@ -5,8 +5,10 @@
 pub mod State
 pub mod Creations
 pub mod Contexts
+pub mod Apart
 pub mod Messages
 pub mod Calls
 pub mod Replies
 pub mod Events
 pub mod Runs
+pub mod Tests

@@ -1,6 +1,5 @@
 -- Scripts, this project's own: a list of operations for each rank and thread.
-use Rattle.mpi_base.specs.declared.members.TheConstants.{MOST_RANKS}
-use Rattle.std.specs.Prelude.{◌≡◌, ℕ, ◌+◌, ◌*◌, ◌^◌, ◌<◌, ◌≤◌, List, [], get_or, slice_get, Option, sum_by, length, set, ◌++◌, ◌∷◌}
+use Rattle.std.specs.Prelude.{ℕ, ◌+◌, ◌*◌, List, [], get_or, slice_get, Option, sum_by, length}
 use Rattle.mpi_base.specs.declared.ops.Op.{Op}
 use Rattle.mpi_law.specs.declared.setting.TheConstants.{THREADS}
 
@@ -20,14 +19,3 @@ next_op scripts r t calls = slice_get (script_of scripts r t) calls
 -- how many operations there are in all
 abbrev pub total_of : AllScripts → ℕ
 total_of scripts = sum_by length scripts.lists
-
--- the scripts with one more operation at the end of one of them
-abbrev pub with_op : AllScripts → ℕ → ℕ → Op → AllScripts
-with_op scripts r t op = record { ranks = scripts.ranks; lists = set scripts.lists (THREADS * r + t) (script_of scripts r t ++ op ∷ []) }
-
--- THREADS scripts for each rank, and their operations counted
-pub record IsScripts (ranks total : ℕ) (lists : List (List Op)) : Type 0 where
-  pub few : ranks ≤ MOST_RANKS
-  pub each : length lists ≡ THREADS * ranks
-  pub counted : total ≡ sum_by length lists
-  pub small : total < 2 ^ 32

@@ -1,11 +1,13 @@
 pub mod Packets
 pub mod Rank
+pub mod OpenHere
 pub mod Moves
 pub mod Calls
 pub mod Answers
 pub mod Agreeing
 pub mod Delivers
 pub mod Step
+pub mod Stepping
 pub mod World
 pub mod Run
 pub mod Order

@@ -1,6 +1,6 @@
 -- The step of a rank: a function of its state, the act and, for a delivery, the packet taken. It gives the new state, the
 -- entry, and the packets to send. This project's own.
-use Rattle.std.specs.Prelude.{◌≡◌, ℕ, ◌==◌, ◌&&◌, not, Bool, List, [], map, filter, Option, Some, None, option_map, is_none, nat_lt}
+use Rattle.std.specs.Prelude.{ℕ, ◌==◌, ◌&&◌, not, Bool, List, [], map, filter, Option, Some, None, option_map, is_none, nat_lt}
 use Rattle.mpi_base.specs.declared.entries.Act.{Act}
 use Rattle.mpi_base.specs.declared.entries.Act.TheVariants.{Call, Answer, Deliver, Offer as MakeOffer, Settle, Leave, Back}
 use Rattle.mpi_base.specs.declared.entries.Entry.{Entry}
@@ -71,9 +71,3 @@ step x (Back c) p = gives_back x c
 abbrev pub entry_of : Rank → Act → Option Packet → Move → Entry
 entry_of x act p m =
     record { choice = record { rank = x.rank; act = act }; brief = option_map brief_of p; said = m.said; matched = m.matched; dropped = m.dropped; reply = m.reply }
-
--- old goes on to new by an act and a packet, with this entry and these packets to send
-pub record Steps (old : Rank) (act : Act) (packet : Option Packet) (new : Rank) (line : Entry) (sent : List Sent) : Type 0 where
-  pub state : new ≡ (step old act packet).state
-  pub entry : line ≡ entry_of old act packet (step old act packet)
-  pub packets : sent ≡ (step old act packet).sent

@@ -23,7 +23,8 @@ use Rattle.mpi_protocol.specs.World.{opening}
 use Rattle.mpi_protocol.proofs.Examples.SplitByKey as split
 use Rattle.mpi_protocol.proofs.Examples.ReuseAfterMessage as reuse
 use Rattle.mpi_protocol.proofs.Examples.RetryRound as retry
-use Rattle.projection_law.specs.Premises.{SetsAreOfRanks, CallersNamesAreKnown}
+use Rattle.projection_law.specs.Premises.{SetsAreOfRanks}
+use Rattle.projection_law.specs.KnownNames.{CallersNamesAreKnown}
 use Rattle.projection_law.specs.Facts.{IsAgreementRun}
 use Rattle.projection_law.proofs.Tested.{all_known, are_all_known}
 use Rattle.projection_law.proofs.RunLaws.{runs_are_agreement_runs}

@@ -27,7 +27,8 @@ use Rattle.mpi_protocol.specs.Answers.{outcome_of}
 use Rattle.mpi_protocol.specs.World.{World, rank_at, link, head_for, moved, may_happen}
 use Rattle.projection_law.proofs.BothTests.{right_of}
 use Rattle.projection_law.specs.Facts.{key_of_verdict, MasksStay}
-use Rattle.projection_law.specs.Premises.{SetsAreOfRanks, NamesAreKnownFor}
+use Rattle.projection_law.specs.Premises.{SetsAreOfRanks}
+use Rattle.projection_law.specs.KnownNames.{NamesAreKnownFor}
 use Rattle.projection_law.proofs.Projected.{same_part, agreement_taken}
 use Rattle.projection_law.specs.Events.{opening_events, call_events, decided_events, answer_events, packet_events, act_events, events_at}
 use Rattle.projection_law.proofs.Events.{Mirrors}

@@ -19,7 +19,8 @@ use Rattle.mpi_protocol.specs.World.{World, opening, rank_at, moved}
 use Rattle.mpi_protocol.specs.Run.{RunsFrom, IsProtocolRun, world_after, end_of}
 use Rattle.projection_law.proofs.BothTests.{right_of}
 use Rattle.projection_law.specs.Facts.{EachMayHappen, settles_key, NoneSettles, IsCaused, MaySettle}
-use Rattle.projection_law.specs.Premises.{SetsAreOfRanks, NamesAreKnownFrom, CallersNamesAreKnown}
+use Rattle.projection_law.specs.Premises.{SetsAreOfRanks}
+use Rattle.projection_law.specs.KnownNames.{NamesAreKnownFrom, CallersNamesAreKnown}
 use Rattle.projection_law.proofs.Projected.{same_part}
 use Rattle.projection_law.specs.Events.{events_at, agreement_events}
 use Rattle.projection_law.proofs.Runs.{mirrored, run-append}

@@ -14,7 +14,8 @@ use Rattle.mpi_protocol.specs.World.{World, opening, blank, rank_at, moved, head
 use Rattle.mpi_protocol.specs.Run.{RunsFrom, IsProtocolRun, world_after, end_of}
 use Rattle.projection_law.proofs.BothTests.{right_of}
 use Rattle.projection_law.specs.Events.{events_at, agreement_events}
-use Rattle.projection_law.specs.Premises.{SetsAreOfRanks, NamesAreKnownFrom, CallersNamesAreKnown}
+use Rattle.projection_law.specs.Premises.{SetsAreOfRanks}
+use Rattle.projection_law.specs.KnownNames.{NamesAreKnownFrom, CallersNamesAreKnown}
 use Rattle.projection_law.specs.Facts.{EachMayHappen, IsAgreementRun, PicksAreContexts}
 use Rattle.projection_law.proofs.Projected.{agreement_is}
 use Rattle.projection_law.proofs.Frames.{same_step, ranks_moved, rank_moved}

@@ -21,14 +21,17 @@ use Rattle.mpi_law.specs.declared.effects.Effect.TheVariants.{Says, Opens, Group
 use Rattle.agree_law.specs.declared.rows.CreationRow.{CreationRow}
 use Rattle.agree_law.specs.declared.rows.Stage.{Stage}
 use Rattle.agree_law.specs.Part.{stage_of}
-use Rattle.agree_law.specs.Kinds.{is_share, is_split}
+use Rattle.agree_law.specs.Kinds.{is_share}
+use Rattle.agree_law.specs.SplitKeys.{is_split}
 use Rattle.agree_law.specs.World.{is_key_of, may_begin, is_apart, has_no_split}
 use Rattle.comm_law.specs.declared.rows.CommRow.{CommRow}
 use Rattle.comm_law.specs.Comms.{row_at, comm_at}
-use Rattle.mpi_protocol.specs.Rank.{Rank, is_open_here}
+use Rattle.mpi_protocol.specs.Rank.{Rank}
+use Rattle.mpi_protocol.specs.OpenHere.{is_open_here}
 use Rattle.mpi_protocol.specs.Calls.{key_from, key_on, key_under, around_here}
 use Rattle.projection_law.specs.Facts.{is_counted}
-use Rattle.projection_law.specs.Premises.{are_distinct_ranks, SetsAreOfRanks, is_known, NamesAreKnown}
+use Rattle.projection_law.specs.Premises.{are_distinct_ranks, SetsAreOfRanks}
+use Rattle.projection_law.specs.KnownNames.{is_known, NamesAreKnown}
 use Rattle.projection_law.proofs.Events.{may_open}
 use Rattle.projection_law.proofs.Calls.{CallFits}
 use Rattle.projection_law.proofs.Operations.{OriginFits, EffectFits, effect_fits}

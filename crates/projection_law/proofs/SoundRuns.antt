@@ -17,7 +17,8 @@ use Rattle.mpi_protocol.specs.Calls.{around_here, calls}
 use Rattle.mpi_protocol.specs.Step.{step, is_enabled}
 use Rattle.mpi_protocol.specs.World.{World, opening, blank, rank_at, moved, head_for, may_happen}
 use Rattle.mpi_protocol.specs.Run.{RunsFrom, IsProtocolRun, world_after, end_of}
-use Rattle.projection_law.specs.Premises.{SetsAreOfRanks, NamesAreKnownFor, NamesAreKnownFrom, CallersNamesAreKnown}
+use Rattle.projection_law.specs.Premises.{SetsAreOfRanks}
+use Rattle.projection_law.specs.KnownNames.{NamesAreKnownFor, NamesAreKnownFrom, CallersNamesAreKnown}
 use Rattle.projection_law.specs.Events.{events_at, agreement_events}
 use Rattle.projection_law.proofs.Rows.{members_are_ranks, members_below}
 use Rattle.projection_law.proofs.Sound.{Sound, sound-fresh}

@@ -35,7 +35,8 @@ use Rattle.mpi_protocol.specs.Moves.{Taking, arrives_to, arrives, posts_to, post
 use Rattle.mpi_protocol.specs.Calls.{key_of, around_here, counted, opens, sends, message_of, with_post, called}
 use Rattle.mpi_protocol.specs.Answers.{outcome_of, target_after, answers, answers_creation, answers_taken, answers_row, answers_receive, answered}
 use Rattle.mpi_protocol.specs.Step.{may_leave, leaves, gives_back}
-use Rattle.projection_law.specs.Premises.{SetsAreOfRanks, is_known, NamesAreKnown}
+use Rattle.projection_law.specs.Premises.{SetsAreOfRanks}
+use Rattle.projection_law.specs.KnownNames.{is_known, NamesAreKnown}
 use Rattle.projection_law.proofs.Operations.{GroupFits, GroupsFit, EffectFits, OriginFits, groups_after}
 use Rattle.projection_law.proofs.Rows.{RowFits, found_fits, rows_changed, row_has, row_changed, stands, GoesOn, stands_on, goes-count, goes-free, goes-end, goes-remove, leave_other}
 use Rattle.projection_law.proofs.Threads.{is_for, WaitStands, Standing, idle_for, standing_each, standing_apart}

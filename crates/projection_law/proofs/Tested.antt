@@ -11,7 +11,7 @@ use Rattle.comm_law.specs.Comms.{Comms, row_at}
 use Rattle.mpi_protocol.specs.Rank.{Rank}
 use Rattle.mpi_protocol.specs.World.{World, rank_at, moved}
 use Rattle.projection_law.proofs.BothTests.{left_of, right_of}
-use Rattle.projection_law.specs.Premises.{is_known, NamesAreKnownFor, NamesAreKnownFrom}
+use Rattle.projection_law.specs.KnownNames.{is_known, NamesAreKnownFor, NamesAreKnownFrom}
 use Rattle.projection_law.proofs.Operations.{bound_fits}
 
 -- whether what a name is bound to is no communicator, or one that is known here

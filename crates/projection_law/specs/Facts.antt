@@ -39,7 +39,8 @@ use Rattle.mpi_protocol.specs.World.{World, opening, rank_at, link, head_for, mo
 use Rattle.mpi_protocol.specs.Projection.{IsAgreementOf}
 use Rattle.mpi_protocol.specs.Run.{end_of}
 use Rattle.projection_law.specs.Events.{agreement_events}
-use Rattle.projection_law.specs.Premises.{are_distinct_ranks, NamesAreKnownFor}
+use Rattle.projection_law.specs.Premises.{are_distinct_ranks}
+use Rattle.projection_law.specs.KnownNames.{NamesAreKnownFor}
 
 -- The agreement's own world
 

@@ -1,3 +1,4 @@
 pub mod Events
 pub mod Premises
+pub mod KnownNames
 pub mod Facts

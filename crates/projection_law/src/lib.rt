@@ -11,7 +11,8 @@ ghost use Rattle.std.specs.Prelude.{ℕ, List};
 ghost use Rattle.mpi_base.specs.declared.entries.Entry.{Entry};
 ghost use Rattle.mpi_law.specs.declared.setting.Setting.{Setting};
 ghost use Rattle.mpi_protocol.specs.Run.{IsProtocolRun, end_of};
-ghost use Rattle.projection_law.specs.Premises.{SetsAreOfRanks, CallersNamesAreKnown};
+ghost use Rattle.projection_law.specs.Premises.{SetsAreOfRanks};
+ghost use Rattle.projection_law.specs.KnownNames.{CallersNamesAreKnown};
 ghost use Rattle.projection_law.specs.Facts.{IsAgreementRun, PacketsAreTaken, OpensFit, OpensAreWaitedFor, OpensAreCounted, AllHaveCalled, CommsFit, OwnersHaveOffered, MasksStay, PicksAreFree, PicksAreContexts, ExhaustedIsTaken, RetriesHaveZero, RetriesAreCaused, SettledSharesAreTold};
 
 /// Each choice of a protocol run is one event of the agreement, which may happen there, or none; and the world

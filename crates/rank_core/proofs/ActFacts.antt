@@ -10,7 +10,8 @@ use Rattle.and_reduce.specs.Rows as agree
 use Rattle.mpi_protocol.specs.Packets.{Packet, Agreeing, Sent as Sent_seen, agreeing}
 use Rattle.mpi_protocol.specs.Rank.{Rank}
 use Rattle.mpi_protocol.specs.Moves.{Move}
-use Rattle.mpi_protocol.specs.Step.{Steps, entry_of, step}
+use Rattle.mpi_protocol.specs.Step.{entry_of, step}
+use Rattle.mpi_protocol.specs.Stepping.{Steps}
 use Rattle.rank_core.specs.declared.packets.Sent.{Sent}
 use Rattle.rank_core.specs.Packets.{Box, sent_by, sent_of}
 use Rattle.rank_core.specs.Held.{Held, IsReady, Makes, MOST_SENT}

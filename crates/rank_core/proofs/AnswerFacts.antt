@@ -16,7 +16,8 @@ use Rattle.mpi_protocol.specs.declared.rows.Waits.TheVariants.{Nothing, Creation
 use Rattle.mpi_protocol.specs.Answers.{answered, answers, answers_creation, answers_row, answers_taken, is_answerable, is_done, outcome_of, reply_of}
 use Rattle.mpi_protocol.specs.Moves.{Move}
 use Rattle.mpi_protocol.specs.Rank.{Rank, receive_of, taken_of, thread_at, with_waits}
-use Rattle.mpi_protocol.specs.Step.{Steps, is_enabled, step}
+use Rattle.mpi_protocol.specs.Step.{is_enabled, step}
+use Rattle.mpi_protocol.specs.Stepping.{Steps}
 use Rattle.rank_core.specs.Held.{Held}
 use Rattle.rank_core.proofs.ActFacts.{steps-of}
 

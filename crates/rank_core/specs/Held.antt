@@ -9,7 +9,7 @@ use Rattle.mpi_base.specs.declared.entries.Act.{Act}
 use Rattle.mpi_base.specs.declared.entries.Entry.{Entry}
 use Rattle.mpi_protocol.specs.Packets.{Packet}
 use Rattle.mpi_protocol.specs.Rank.{Rank}
-use Rattle.mpi_protocol.specs.Step.{Steps}
+use Rattle.mpi_protocol.specs.Stepping.{Steps}
 use Rattle.rank_law.specs.Counts.{CountsWithin}
 use Rattle.rank_core.specs.Packets.{Box, sent_by}
 

@@ -5,7 +5,8 @@ ghost use Rattle.agree_law.specs.Part.{stage_of};
 ghost use Rattle.agree_law.specs.Moves.{close};
 ghost use Rattle.mpi_law.specs.Local.Messages.{from_nobody};
 ghost use Rattle.mpi_protocol.specs.Answers.{outcome_of, target_after, reply_of, received_reply, is_answerable, answers_receive, answered};
-ghost use Rattle.mpi_protocol.specs.Step.{Steps, is_enabled};
+ghost use Rattle.mpi_protocol.specs.Step.{is_enabled};
+ghost use Rattle.mpi_protocol.specs.Stepping.{Steps};
 
 use crate::entries::Told;
 use crate::messages::place_of;

@@ -3,7 +3,8 @@ ghost use Rattle.std.specs.Prelude.{◌≡◌, ℕ, ◌≤◌, ◌<◌, ◌+◌,
 ghost use Rattle.mpi_law.specs.declared.effects.Effect.TheVariants.{Frees};
 ghost use Rattle.mpi_law.specs.declared.setting.TheConstants.{THREADS};
 ghost use Rattle.mpi_protocol.specs.Calls.{called};
-ghost use Rattle.mpi_protocol.specs.Step.{Steps, is_enabled, markers};
+ghost use Rattle.mpi_protocol.specs.Step.{is_enabled, markers};
+ghost use Rattle.mpi_protocol.specs.Stepping.{Steps};
 ghost use Rattle.and_reduce.specs.Rooms.{room_of};
 ghost use Rattle.rank_core.specs.Packets.{sent_of};
 ghost use Rattle.rank_core.specs.Held.{CountsAreLow, IsReady, Makes};

@@ -10,7 +10,7 @@ use Rattle.mpi_law.specs.Registry.State.{Registry, part_of}
 use Rattle.comm_law.specs.Comms.{row_at}
 use Rattle.mpi_protocol.specs.Rank.{Rank}
 use Rattle.mpi_protocol.specs.World.{World, rank_at}
-use Rattle.projection_law.specs.Premises.{is_known, NamesAreKnown, NamesAreKnownFor}
+use Rattle.projection_law.specs.KnownNames.{is_known, NamesAreKnown, NamesAreKnownFor}
 use Rattle.due_law.specs.Dues.{Dues}
 use Rattle.run_law.proofs.Locals.{BoundFits}
 use Rattle.run_law.proofs.Comms.{is_live}

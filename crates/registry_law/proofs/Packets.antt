@@ -13,7 +13,7 @@ use Rattle.projection_law.proofs.Laws.{packets_are_taken_there}
 use Rattle.due_law.specs.Dues.{Dues}
 use Rattle.message_law.proofs.Topics.{messages_on, MarkerFits, Belongs}
 use Rattle.message_law.proofs.Acts.{message_taken, marker_taken}
-use Rattle.registry_law.specs.Facts.{PacketsAreTaken}
+use Rattle.registry_law.specs.TakenPackets.{PacketsAreTaken}
 use Rattle.registry_law.proofs.Grounds.{ground}
 use Rattle.registry_law.proofs.Together.{Together}
 

@@ -4,18 +4,20 @@ use Rattle.std.proofs.lemmas.List.{append_assoc, append-nil}
 use Rattle.mpi_base.specs.declared.entries.Entry.{Entry}
 use Rattle.mpi_law.specs.declared.setting.Setting.{Setting}
 use Rattle.mpi_law.specs.Registry.State.{Registry, registry_opening}
-use Rattle.mpi_law.specs.Registry.Contexts.{LiveApart}
+use Rattle.mpi_law.specs.Registry.Apart.{LiveApart}
 use Rattle.mpi_law.specs.Registry.Runs.{IsRegistryRun, registry_after}
 use Rattle.agree_law.specs.World.{Event}
 use Rattle.mpi_protocol.specs.World.{World, opening, moved, entry_at}
 use Rattle.mpi_protocol.specs.Run.{RunsFrom, IsProtocolRun, world_after, end_of, entry_events, events_of}
-use Rattle.projection_law.specs.Premises.{SetsAreOfRanks, NamesAreKnownFrom, CallersNamesAreKnown}
+use Rattle.projection_law.specs.Premises.{SetsAreOfRanks}
+use Rattle.projection_law.specs.KnownNames.{NamesAreKnownFrom, CallersNamesAreKnown}
 use Rattle.projection_law.specs.Events.{events_at, agreement_events}
 use Rattle.due_law.specs.Runs.{dues_chosen, dues_from, dues_of}
 use Rattle.due_law.specs.Dues.{Dues, none_due}
 use Rattle.message_law.proofs.RegistryCalls.{registry_after-append}
 use Rattle.message_law.proofs.QuietActs.{run_then}
-use Rattle.registry_law.specs.Facts.{registry_of, PacketsAreTaken}
+use Rattle.registry_law.specs.Facts.{registry_of}
+use Rattle.registry_law.specs.TakenPackets.{PacketsAreTaken}
 use Rattle.registry_law.proofs.Packets.{all_taken}
 use Rattle.registry_law.proofs.Together.{Together, together_opening}
 use Rattle.registry_law.proofs.Steps.{step_goes}

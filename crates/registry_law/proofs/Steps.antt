@@ -19,7 +19,8 @@ use Rattle.mpi_protocol.specs.Answers.{is_answerable}
 use Rattle.mpi_protocol.specs.Step.{is_enabled}
 use Rattle.mpi_protocol.specs.Run.{entry_events}
 use Rattle.mpi_protocol.specs.World.{World, rank_at, link, head_for, has_packet, may_happen, moved, entry_at}
-use Rattle.projection_law.specs.Premises.{SetsAreOfRanks, NamesAreKnownFor}
+use Rattle.projection_law.specs.Premises.{SetsAreOfRanks}
+use Rattle.projection_law.specs.KnownNames.{NamesAreKnownFor}
 use Rattle.projection_law.specs.Events.{events_at}
 use Rattle.projection_law.proofs.BothTests.{left_of, right_of}
 use Rattle.projection_law.proofs.Runs.{mirrored, run-append}

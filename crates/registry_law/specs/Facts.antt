@@ -1,18 +1,11 @@
--- What holds at the end of every protocol run. `w` is the world there, `r` and `from` are ranks, and `p` is a packet.
-use Rattle.std.specs.Prelude.{◌≡◌, ◌<◌, ℕ, true, List, length, slice_get, Some}
+-- The registry that a journal leaves.
+use Rattle.std.specs.Prelude.{List}
 use Rattle.mpi_base.specs.declared.entries.Entry.{Entry}
 use Rattle.mpi_law.specs.declared.setting.Setting.{Setting}
 use Rattle.mpi_law.specs.Registry.State.{Registry, registry_opening}
 use Rattle.mpi_law.specs.Registry.Runs.{registry_after}
-use Rattle.mpi_protocol.specs.Packets.{Packet}
-use Rattle.mpi_protocol.specs.Delivers.{takes_packet}
-use Rattle.mpi_protocol.specs.World.{World, rank_at, link}
 use Rattle.mpi_protocol.specs.Run.{events_of}
 
 -- the registry that the events of a journal leave
 abbrev pub registry_of : Setting → List Entry → Registry
 registry_of s journal = registry_after s (registry_opening s) (events_of journal)
-
--- each packet at the head of a link is taken, of whatever kind it is
-abbrev pub PacketsAreTaken : World → Type 0
-PacketsAreTaken w = (r from : ℕ) (p : Packet) → r < length w.ranks → from < length w.ranks → slice_get (link w from r) 0 ≡ Some p → takes_packet (rank_at w r) from p ≡ true

@@ -10,14 +10,16 @@ ghost use Rattle.mpi_base.specs.declared.entries.Entry.{Entry};
 ghost use Rattle.mpi_law.specs.declared.setting.Setting.{Setting};
 ghost use Rattle.mpi_law.specs.Registry.State.{registry_opening, creation_at};
 ghost use Rattle.mpi_law.specs.Registry.Creations.{outcome_for};
-ghost use Rattle.mpi_law.specs.Registry.Contexts.{LiveApart};
+ghost use Rattle.mpi_law.specs.Registry.Apart.{LiveApart};
 ghost use Rattle.mpi_law.specs.Registry.Runs.{IsRegistryRun};
 ghost use Rattle.agree_law.specs.Part.{stage_of};
 ghost use Rattle.mpi_protocol.specs.World.{rank_at};
 ghost use Rattle.mpi_protocol.specs.Run.{IsProtocolRun, end_of, events_of};
-ghost use Rattle.projection_law.specs.Premises.{SetsAreOfRanks, CallersNamesAreKnown};
+ghost use Rattle.projection_law.specs.Premises.{SetsAreOfRanks};
+ghost use Rattle.projection_law.specs.KnownNames.{CallersNamesAreKnown};
 ghost use Rattle.projection_law.specs.Facts.{PicksAreFree, ExhaustedIsTaken, RetriesAreCaused};
-ghost use Rattle.registry_law.specs.Facts.{registry_of, PacketsAreTaken};
+ghost use Rattle.registry_law.specs.Facts.{registry_of};
+ghost use Rattle.registry_law.specs.TakenPackets.{PacketsAreTaken};
 ghost use Rattle.registry_law.specs.Keys.{Stands};
 
 /// The events of every protocol run are a run of the central registry.

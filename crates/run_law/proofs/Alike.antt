@@ -32,7 +32,8 @@ use Rattle.mpi_law.specs.Registry.Creations.{is_open, has_open_of as reg_has_ope
 use Rattle.mpi_law.specs.Registry.State as reg
 use Rattle.mpi_law.specs.Registry.Calls.{around, effect_at}
 use Rattle.comm_law.specs.Comms.{comm_at}
-use Rattle.mpi_protocol.specs.Rank.{Rank, is_open_here, has_open_of}
+use Rattle.mpi_protocol.specs.Rank.{Rank}
+use Rattle.mpi_protocol.specs.OpenHere.{is_open_here, has_open_of}
 use Rattle.mpi_protocol.specs.Calls.{key_from, key_under, around_here}
 use Rattle.due_law.specs.Dues.{Dues}
 use Rattle.run_law.proofs.Locals.{CommNamed}

@@ -34,7 +34,8 @@ use Rattle.mpi_protocol.specs.declared.rows.Waits.{Waits}
 use Rattle.mpi_protocol.specs.declared.rows.Waits.TheVariants.{Nothing, Creation as Creates, Uncoloured, Freeing, Ending, Receiving, Awaiting}
 use Rattle.mpi_protocol.specs.declared.rows.ThreadRow.{ThreadRow}
 use Rattle.mpi_protocol.specs.Rank as ranks_rank
-use Rattle.mpi_protocol.specs.Rank.{Rank, is_open_here}
+use Rattle.mpi_protocol.specs.Rank.{Rank}
+use Rattle.mpi_protocol.specs.OpenHere.{is_open_here}
 use Rattle.mpi_protocol.specs.Moves.{Move}
 use Rattle.mpi_protocol.specs.Calls.{key_from, called, says}
 use Rattle.mpi_protocol.specs.Run.{match_events, reply_events}

@@ -28,7 +28,8 @@ use Rattle.comm_law.specs.declared.rows.CommRow.{CommRow}
 use Rattle.comm_law.specs.Comms.{Comms as Known, freed, freed_stage, free_session}
 use Rattle.mpi_protocol.specs.declared.rows.Waits.TheVariants.{Nothing, Creation as Creates, Freeing, Ending}
 use Rattle.mpi_protocol.specs.declared.rows.ThreadRow.{ThreadRow}
-use Rattle.mpi_protocol.specs.Rank.{Rank, idle_thread, has_open_of, creates as rank_creates}
+use Rattle.mpi_protocol.specs.Rank.{Rank, idle_thread, creates as rank_creates}
+use Rattle.mpi_protocol.specs.OpenHere.{has_open_of}
 use Rattle.mpi_protocol.specs.Calls.{called}
 use Rattle.run_law.proofs.Lists.{length-map, tally, get_or-map}
 use Rattle.run_law.proofs.Rows.{row_in}

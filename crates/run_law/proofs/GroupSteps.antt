@@ -24,7 +24,8 @@ use Rattle.agree_law.specs.Part.{stage_of}
 use Rattle.agree_law.specs.Offers.{begin}
 use Rattle.comm_law.specs.declared.rows.CommRow.{CommRow}
 use Rattle.mpi_protocol.specs.declared.rows.Waits.TheVariants.{Nothing}
-use Rattle.mpi_protocol.specs.Rank.{Rank, is_open_here}
+use Rattle.mpi_protocol.specs.Rank.{Rank}
+use Rattle.mpi_protocol.specs.OpenHere.{is_open_here}
 use Rattle.mpi_protocol.specs.Calls.{key_under, called}
 use Rattle.run_law.proofs.Lists.{get_or_past}
 use Rattle.run_law.proofs.Rows.{row_in}

@@ -13,8 +13,10 @@ use Rattle.mpi_law.specs.Registry.Contexts.{comm_of, stands_for}
 use Rattle.mpi_protocol.specs.declared.rows.Waits.{Waits}
 use Rattle.mpi_protocol.specs.declared.rows.Waits.TheVariants.{Nothing, Creation as Creates, Uncoloured, Freeing, Ending, Receiving, Awaiting}
 use Rattle.mpi_protocol.specs.declared.rows.ThreadRow.{ThreadRow}
+use Rattle.mpi_protocol.specs.OpenHere as open_rank
 use Rattle.mpi_protocol.specs.Rank as ranks_rank
-use Rattle.mpi_protocol.specs.Rank.{Rank, idle_thread, is_open_here}
+use Rattle.mpi_protocol.specs.Rank.{Rank, idle_thread}
+use Rattle.mpi_protocol.specs.OpenHere.{is_open_here}
 use Rattle.mpi_protocol.specs.Calls.{key_from, key_under}
 use Rattle.run_law.proofs.Lists.{any_tally}
 use Rattle.due_law.specs.Dues.{Dues}
@@ -92,6 +94,6 @@ module _ (s : Setting) (ranks : List Rank) (due : Dues) (g : Registry) (r : ℕ)
       open_same (λ c. same_name c.name (Group_on p tag group)) (λ k session. same_key k (key_under c tag group)) (λ i k target session n stands caller. named_on_alike s ranks due g r k (creation_at g n).name c p tag group at stands)
 
   -- and one of a session
-  pub engaged_agrees : (session : ℕ) → has_open_of g r session ≡ ranks_rank.has_open_of x session
+  pub engaged_agrees : (session : ℕ) → has_open_of g r session ≡ open_rank.has_open_of x session
   engaged_agrees session =
       open_same (λ c. (caller_of c.callers r).session == session) (λ k q. q == session) (λ i k target q n stands caller. ap (λ (z : ℕ). z == session) caller.session_is)

@@ -9,7 +9,8 @@ use Rattle.mpi_law.specs.ScriptLists.{AllScripts}
 use Rattle.mpi_protocol.specs.World.{World, opening, rank_at, may_happen, moved, entry_at}
 use Rattle.mpi_protocol.specs.Run.{RunsFrom, IsProtocolRun, world_after, end_of}
 use Rattle.mpi_protocol.specs.Order.{IsFirstChoice, IsDrained, IsQuiet}
-use Rattle.projection_law.specs.Premises.{SetsAreOfRanks, NamesAreKnownFrom}
+use Rattle.projection_law.specs.Premises.{SetsAreOfRanks}
+use Rattle.projection_law.specs.KnownNames.{NamesAreKnownFrom}
 use Rattle.projection_law.proofs.SoundRuns.{runs_follow}
 use Rattle.wayout_law.specs.Potential.{bound}
 use Rattle.wayout_law.specs.Facts.{DrainEnds, NamesAreKnownInRuns}

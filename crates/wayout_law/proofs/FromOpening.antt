@@ -13,7 +13,8 @@ use Rattle.mpi_protocol.specs.Packets.{Packet}
 use Rattle.mpi_protocol.specs.Rank.{Rank, fresh, idle_thread}
 use Rattle.mpi_protocol.specs.World.{opening}
 use Rattle.mpi_protocol.specs.Order.{IsDrained}
-use Rattle.projection_law.specs.Premises.{SetsAreOfRanks, NamesAreKnownFrom}
+use Rattle.projection_law.specs.Premises.{SetsAreOfRanks}
+use Rattle.projection_law.specs.KnownNames.{NamesAreKnownFrom}
 use Rattle.wayout_law.specs.Potential.{sum_of, sum_at, waits_now, left_after, left_of, unanswered_by, unanswered, live_pairs, in_flight, bound}
 use Rattle.wayout_law.specs.Facts.{IsWithinJob}
 use Rattle.wayout_law.proofs.RunLaw.{drains_are_short}

@@ -8,7 +8,8 @@ use Rattle.mpi_protocol.specs.World.{World, opening, moved}
 use Rattle.mpi_protocol.specs.Run.{IsProtocolRun, end_of}
 use Rattle.mpi_protocol.specs.Order.{IsQuiet, IsDrained}
 use Rattle.projection_law.specs.Events.{events_at, agreement_events}
-use Rattle.projection_law.specs.Premises.{SetsAreOfRanks, NamesAreKnownFrom, CallersNamesAreKnown}
+use Rattle.projection_law.specs.Premises.{SetsAreOfRanks}
+use Rattle.projection_law.specs.KnownNames.{NamesAreKnownFrom, CallersNamesAreKnown}
 use Rattle.projection_law.proofs.SoundRuns.{Follows, follows-moved, runs_follow}
 use Rattle.wayout_law.specs.Facts.{IsWithinBound, IsAtRest}
 use Rattle.wayout_law.proofs.Stands.{Stands}

@@ -13,7 +13,7 @@ use Rattle.share_law.specs.Facts.{is_exchange, sharing_of}
 use Rattle.mpi_protocol.specs.World.{World, rank_at, link}
 use Rattle.mpi_protocol.specs.Run.{RunsFrom, IsProtocolRun, world_after}
 use Rattle.mpi_protocol.specs.Order.{is_offered, IsDrained, IsQuiet}
-use Rattle.projection_law.specs.Premises.{CallersNamesAreKnown}
+use Rattle.projection_law.specs.KnownNames.{CallersNamesAreKnown}
 use Rattle.wayout_law.specs.Potential.{bound}
 
 -- so many choices are within the bound of a world

@@ -14,7 +14,8 @@ ghost use Rattle.mpi_law.specs.ScriptLists.{AllScripts};
 ghost use Rattle.mpi_protocol.specs.World.{opening};
 ghost use Rattle.mpi_protocol.specs.Order.{IsQuiet, IsDrained};
 ghost use Rattle.mpi_protocol.specs.Run.{IsProtocolRun, end_of};
-ghost use Rattle.projection_law.specs.Premises.{SetsAreOfRanks, NamesAreKnownFrom, CallersNamesAreKnown};
+ghost use Rattle.projection_law.specs.Premises.{SetsAreOfRanks};
+ghost use Rattle.projection_law.specs.KnownNames.{NamesAreKnownFrom, CallersNamesAreKnown};
 ghost use Rattle.wayout_law.specs.Facts.{IsWithinBound, IsWithinJob, DrainEnds, NamesAreKnownInRuns, IsAtRest};
 
 /// From the world that a protocol run leaves, the drain makes no more choices than the bound says: for n ranks, u

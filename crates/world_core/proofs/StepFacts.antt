@@ -16,7 +16,8 @@ use Rattle.mpi_protocol.specs.Packets as seen
 use Rattle.mpi_protocol.specs.Packets.{agreeing}
 use Rattle.mpi_protocol.specs.Rank.{Rank}
 use Rattle.mpi_protocol.specs.Run.{end_of}
-use Rattle.mpi_protocol.specs.Step.{step, is_enabled, entry_of, Steps}
+use Rattle.mpi_protocol.specs.Step.{step, is_enabled, entry_of}
+use Rattle.mpi_protocol.specs.Stepping.{Steps}
 use Rattle.mpi_protocol.specs.World.{World, blank, rank_at, head_for, has_packet, taken_off, put_on, move_of, may_happen, moved, entry_at}
 use Rattle.rank_law.specs.Counts.{CountsWithin}
 use Rattle.rank_core.specs.declared.packets.Packet.{Packet}

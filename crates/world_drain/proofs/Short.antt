@@ -6,7 +6,8 @@ use Rattle.mpi_law.specs.ScriptLists.{AllScripts}
 use Rattle.mpi_protocol.specs.World.{World, opening, moved}
 use Rattle.mpi_protocol.specs.Order.{IsDrained}
 use Rattle.mpi_protocol.specs.Run.{IsProtocolRun, end_of, world_after}
-use Rattle.projection_law.specs.Premises.{SetsAreOfRanks, NamesAreKnownFrom, CallersNamesAreKnown}
+use Rattle.projection_law.specs.Premises.{SetsAreOfRanks}
+use Rattle.projection_law.specs.KnownNames.{NamesAreKnownFrom, CallersNamesAreKnown}
 use Rattle.wayout_law.specs.Facts.{IsWithinBound}
 use Rattle.wayout_law.specs.Potential.{bound}
 use Rattle.world_core.specs.Held.{Held}

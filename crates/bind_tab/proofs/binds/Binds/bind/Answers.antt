@@ -1,7 +1,8 @@
 use Rattle.std.proofs.Common.{◌≡◌, None, ap, bytes_eq, ◌∙◌, rules}
 use Rattle.indexmap.specs.IndexMap.{get}
 use Rattle.indexmap.proofs.CallerLemmas.{insert_entry-new}
-use Rattle.local_law.specs.Names.{bound_of, bind, renamed_rows}
+use Rattle.local_law.specs.Names.{bound_of, bind}
+use Rattle.local_law.specs.Renaming.{renamed_rows}
 use Rattle.local_law.proofs.Renamed.{bind-renamed}
 use Rattle.bind_tab.specs.Rows.{Table, seen}
 use Rattle.bind_tab.proofs.RowFacts.{found-seen, absent-seen}

@@ -1,6 +1,7 @@
 use Rattle.std.proofs.Common.{◌≡◌, None, ap, sym, ◌∙◌, rules}
 use Rattle.std.specs.Option.{option_map, option_copied_mut}
-use Rattle.local_law.specs.Names.{bound_of, rebind, renamed_rows}
+use Rattle.local_law.specs.Names.{bound_of, rebind}
+use Rattle.local_law.specs.Renaming.{renamed_rows}
 use Rattle.bind_tab.specs.Rows.{Table, seen}
 use Rattle.bind_tab.proofs.RowFacts.{found-seen, rebind-absent, set_value-seen}
 use Rattle.bind_tab.proofs.binds.Binds.fill.Goals as goal

@@ -1,7 +1,8 @@
 use Rattle.std.proofs.Common.{ap, subst, sym, ◌∙◌, bytes_eq}
 use Rattle.std.specs.List.{IsDistinct}
 use Rattle.std.specs.Option.{option_map}
-use Rattle.local_law.specs.Names.{bound_of, AreDistinct}
+use Rattle.local_law.specs.Names.{bound_of}
+use Rattle.local_law.specs.NameFacts.{AreDistinct}
 use Rattle.bind_tab.specs.Rows.{Table, seen}
 use Rattle.bind_tab.proofs.RowFacts.{found-seen, names-seen}
 use Rattle.bind_tab.proofs.binds.Binds.find.Goals as goal

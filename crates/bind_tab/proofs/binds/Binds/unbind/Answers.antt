@@ -1,6 +1,7 @@
 use Rattle.std.proofs.Common.{ap, ◌∙◌}
 use Rattle.std.specs.Option.{option_map}
-use Rattle.local_law.specs.Names.{bound_of, unbind, renamed_rows}
+use Rattle.local_law.specs.Names.{bound_of, unbind}
+use Rattle.local_law.specs.Renaming.{renamed_rows}
 use Rattle.bind_tab.specs.Rows.{Table, seen}
 use Rattle.bind_tab.proofs.RowFacts.{found-seen, removed-seen}
 use Rattle.bind_tab.proofs.binds.Binds.unbind.Goals as goal

@@ -1,6 +1,6 @@
 use Rattle.std.proofs.Common.{rules, not, ap, ◌∙◌}
 use Rattle.indexmap.proofs.CallerLemmas.{filter-RetainsPairs}
-use Rattle.local_law.specs.Names.{renamed_rows}
+use Rattle.local_law.specs.Renaming.{renamed_rows}
 use Rattle.bind_tab.specs.Rows.{Table, seen, is_of, unbind_session}
 use Rattle.bind_tab.proofs.RowFacts.{kept-seen}
 use Rattle.bind_tab.proofs.binds.Binds.unbind_session.Goals as goal

@@ -1,6 +1,6 @@
 use Rattle.std.proofs.Common.{◌≡◌, ◌+◌, ◌-◌, sym, ap, ◌∙◌, arith}
 use Rattle.std.specs.List.{list_all, range_with_len}
-use Rattle.central_law.specs.Tests.{is_taken}
+use Rattle.mpi_law.specs.Registry.Tests.{is_taken}
 use Rattle.central_registry.proofs.PickTests.{one_lacks, all_up_to}
 use Rattle.central_registry.proofs.tables.Tables.are_all_taken.Goals as goal
 

@@ -1,6 +1,6 @@
 use Rattle.std.proofs.Common.{◌≡◌, ◌≤◌, ◌+◌, ◌-◌, true}
 use Rattle.std.specs.List.{list_all, range_with_len}
-use Rattle.central_law.specs.Tests.{is_taken}
+use Rattle.mpi_law.specs.Registry.Tests.{is_taken}
 use Rattle.central_registry.proofs.tables.Tables.are_all_taken.Given as goal
 
 abbrev pub invariant-loop-ctx : goal.invariant-loop-ctx

@@ -1,6 +1,6 @@
 use Rattle.std.proofs.Common.{sym, ap}
 use Rattle.std.specs.List.{list_all, range_with_len}
-use Rattle.central_law.specs.Tests.{can_pick, is_taken}
+use Rattle.mpi_law.specs.Registry.Tests.{can_pick, is_taken}
 use Rattle.central_registry.specs.Held.{TablesHeld}
 use Rattle.central_registry.proofs.PickTests.{decided, none_free, not_exhausted, first_fails, second_fails}
 use Rattle.central_registry.proofs.tables.Tables.exhaust.Goals as goal

@@ -1,5 +1,5 @@
 use Rattle.std.proofs.Common.{◌≡◌, nat_lt, ap, sym, ◌∙◌}
-use Rattle.match_law.specs.Box.{posted_on}
+use Rattle.match_law.specs.Tallies.{posted_on}
 use Rattle.match_box.specs.Boxes.{Held}
 use Rattle.match_box.proofs.BoxFacts.{posted_many, posted_any}
 use Rattle.match_box.proofs.matches.MatchBox.posted.Goals as goal
