@@ -20,7 +20,8 @@ pub struct Binds {
 
 impl Model for Binds {
     ghost use Rattle.indexmap.specs.IndexMap.{spare};
-    ghost use Rattle.local_law.specs.Names.{AreDistinct, renamed_rows};
+    ghost use Rattle.local_law.specs.NameFacts.{AreDistinct};
+    ghost use Rattle.local_law.specs.Renaming.{renamed_rows};
     ghost use Rattle.bind_tab.specs.Rows.{Table, seen};
 
     ghost Value = { Table };

@@ -1,5 +1,5 @@
-//! Two communicators with one context, one after the other, at ranks 0, 1 and 2.
-use crate::Comms;
+//! Two communicators with one context, one after the other, at ranks 0, 1 and 2; and numbers that pairs find.
+use crate::{Comms, Pairs};
 use mpi_base::Members;
 use std::alloc::Global;
 use std::process::Abort;
@@ -94,4 +94,23 @@ fn the_communicators_of_one_session_are_freed(rt: HostRuntime) {
     comms.free_session(2, 7).expect(&rt, "memory");
     assert_eq!(rt; comms.len(), 2);
     assert!(rt; comms.all_freed(0));
+}
+
+#[test]
+fn a_pair_finds_the_number_that_was_given_last(rt: HostRuntime) {
+    let mut pairs = Pairs::none(rt.alloc());
+    for (first, second, number) in [(1, 2, 10), (2, 1, 20), (1, 2, 11), (3, 3, 30)] {
+        pairs.insert(first, second, number).expect(&rt, "memory");
+    }
+    pairs.replace(2, 1, 21);
+    pairs.replace(2, 2, 22);
+    pairs.remove(3, 3);
+    for (first, second, number) in [
+        (1, 2, Some(11)),
+        (2, 1, Some(21)),
+        (2, 2, None),
+        (3, 3, None),
+    ] {
+        assert_eq!(rt; pairs.get(first, second), number);
+    }
 }

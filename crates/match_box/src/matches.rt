@@ -32,7 +32,8 @@ impl Model for MatchBox {
 
 impl MatchBox {
     ghost use Rattle.std.specs.Prelude.{◌≡◌, ◌<◌, ◌≤◌, ◌+◌, ◌-◌, ◌^◌, if◌then◌else◌, is_some, nat_lt, length, option_map, OnOk, IfSome};
-    ghost use Rattle.match_law.specs.Box.{empty_box, arrive, post, has_posted, posted_on, kept_on, drop_ctx};
+    ghost use Rattle.match_law.specs.Box.{empty_box, arrive, post, has_posted, kept_on, drop_ctx};
+    ghost use Rattle.match_law.specs.Tallies.{posted_on};
     ghost use Rattle.match_box.specs.Boxes.{AreApart};
 
     /// An empty box.
