@@ -56,38 +56,10 @@ module _ (r t : ℕ) where
   from_somebody source.Null events h = silent
 
   pub inside_is : (o : Op) (said : Option Reply) → Inside (message_events r t o said)
-  inside_is (op.Session target) said = silent
-  inside_is (op.Finalize session) said = silent
-  inside_is (op.Psets session) said = silent
-  inside_is (op.Nth session number) said = silent
-  inside_is (op.Info session set) said = silent
-  inside_is (op.Pset session set target) said = silent
-  inside_is (op.Union first second target) said = silent
-  inside_is (op.Intersect first second target) said = silent
-  inside_is (op.Difference first second target) said = silent
-  inside_is (op.Incl group ranks target) said = silent
-  inside_is (op.Excl group ranks target) said = silent
-  inside_is (op.RangeIncl group ranges target) said = silent
-  inside_is (op.RangeExcl group ranges target) said = silent
-  inside_is (op.Translate from ranks to) said = silent
-  inside_is (op.Compare first second) said = silent
-  inside_is (op.Size group) said = silent
-  inside_is (op.Rank group) said = silent
-  inside_is (op.Gfree group) said = silent
-  inside_is (op.Create group tag target) said = silent
-  inside_is (op.Dup comm target) said = silent
-  inside_is (op.Split comm colour key target) said = silent
-  inside_is (op.CreateGroup comm group tag target) said = silent
-  inside_is (op.Group comm target) said = silent
-  inside_is (op.Ccompare first second) said = silent
-  inside_is (op.Csize comm) said = silent
-  inside_is (op.Crank comm) said = silent
-  inside_is (op.Free comm) said = silent
   inside_is (op.Send comm to tag payload) said = to_somebody to said
   inside_is (op.Recv comm from tag room) said = from_somebody from (if_silent (Posts r t ∷ []) said) (posts_silent said)
   inside_is (op.Irecv comm from tag room target) said = from_somebody from (if_fine (Posts r t ∷ []) said) (posts_if (is_fine said))
-  inside_is (op.Wait request) said = silent
-  inside_is (op.Await name) said = silent
+  inside_is _ said = silent
 
   -- with the reply that comes at once
 

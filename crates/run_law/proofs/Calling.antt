@@ -82,34 +82,6 @@ refused_then (Ok v) f h k = k v h
 -- where nothing is sent or posted, the entry has no event of a message
 no_message : (s : Setting) (n r t : ℕ) (around : Around) (l : Local) (o : Op) → is_quiet (effect_of s n around l o) ≡ true → message_events r t o (said_at_once (effect_of s n around l o)) ≡ []
 unfolding call_of
-no_message s n r t around l (op.Session target) h = refl
-no_message s n r t around l (op.Finalize session) h = refl
-no_message s n r t around l (op.Psets session) h = refl
-no_message s n r t around l (op.Nth session number) h = refl
-no_message s n r t around l (op.Info session name) h = refl
-no_message s n r t around l (op.Pset session name target) h = refl
-no_message s n r t around l (op.Union first second target) h = refl
-no_message s n r t around l (op.Intersect first second target) h = refl
-no_message s n r t around l (op.Difference first second target) h = refl
-no_message s n r t around l (op.Incl group ranks target) h = refl
-no_message s n r t around l (op.Excl group ranks target) h = refl
-no_message s n r t around l (op.RangeIncl group ranges target) h = refl
-no_message s n r t around l (op.RangeExcl group ranges target) h = refl
-no_message s n r t around l (op.Translate from ranks to) h = refl
-no_message s n r t around l (op.Compare first second) h = refl
-no_message s n r t around l (op.Size group) h = refl
-no_message s n r t around l (op.Rank group) h = refl
-no_message s n r t around l (op.Gfree group) h = refl
-no_message s n r t around l (op.Create group tag target) h = refl
-no_message s n r t around l (op.Dup comm target) h = refl
-no_message s n r t around l (op.Split comm colour key target) h = refl
-no_message s n r t around l (op.CreateGroup comm group tag target) h = refl
-no_message s n r t around l (op.Group comm target) h = refl
-no_message s n r t around l (op.Ccompare first second) h = refl
-no_message s n r t around l (op.Csize comm) h = refl
-no_message s n r t around l (op.Crank comm) h = refl
-no_message s n r t around l (op.Free comm) h = refl
-no_message s n r t around l (op.Send comm None tag payload) h = refl
 no_message s n r t around l (op.Send comm (Some to) tag payload) h =
     let z : IsRefusal (effect_of s n around l (op.Send comm (Some to) tag payload)) = refused_then (as_comm (bound_of l.names comm)) (λ c. and_then (good_dest (length (around.members c.0)) (Some to)) (λ q. and_then (good_tag tag) (λ q'. Ok (begin_send c.0 (Some to) tag payload)))) h (λ c h'. refused_then (good_dest (length (around.members c.0)) (Some to)) (λ q. and_then (good_tag tag) (λ q'. Ok (begin_send c.0 (Some to) tag payload))) h' (λ q h''. refused_then (good_tag tag) (λ q'. Ok (begin_send c.0 (Some to) tag payload)) h'' (λ q' k. absurd (cc (k))))) in
     ap (λ (e : Effect ℕ). if_fine (SendsEvent r t ∷ []) (said_at_once e)) z.is
@@ -119,16 +91,13 @@ no_message s n r t around l (op.Recv comm (source.At rank) tag room) h =
 no_message s n r t around l (op.Recv comm source.Any tag room) h =
     let z : IsRefusal (effect_of s n around l (op.Recv comm source.Any tag room)) = refused_then (good_receive around l comm source.Any tag) (λ c. Ok (begin_receive c.0 source.Any tag room)) h (λ c k. absurd (cc (k))) in
     ap (λ (e : Effect ℕ). if_silent (PostsEvent r t ∷ []) (said_at_once e)) z.is
-no_message s n r t around l (op.Recv comm source.Null tag room) h = refl
 no_message s n r t around l (op.Irecv comm (source.At rank) tag room target) h =
     let z : IsRefusal (effect_of s n around l (op.Irecv comm (source.At rank) tag room target)) = refused_then (good_receive around l comm (source.At rank) tag) (λ c. and_then (free_target l target) (λ q. Ok (begin_request c.0 (source.At rank) tag room target))) h (λ c h'. refused_then (free_target l target) (λ q. Ok (begin_request c.0 (source.At rank) tag room target)) h' (λ q k. absurd (cc (k)))) in
     ap (λ (e : Effect ℕ). if_fine (PostsEvent r t ∷ []) (said_at_once e)) z.is
 no_message s n r t around l (op.Irecv comm source.Any tag room target) h =
     let z : IsRefusal (effect_of s n around l (op.Irecv comm source.Any tag room target)) = refused_then (good_receive around l comm source.Any tag) (λ c. and_then (free_target l target) (λ q. Ok (begin_request c.0 source.Any tag room target))) h (λ c h'. refused_then (free_target l target) (λ q. Ok (begin_request c.0 source.Any tag room target)) h' (λ q k. absurd (cc (k)))) in
     ap (λ (e : Effect ℕ). if_fine (PostsEvent r t ∷ []) (said_at_once e)) z.is
-no_message s n r t around l (op.Irecv comm source.Null tag room target) h = refl
-no_message s n r t around l (op.Wait request) h = refl
-no_message s n r t around l (op.Await name) h = refl
+no_message s n r t around l _ h = refl
 
 said_in : (x : Rank) (t : ℕ) (e : Effect ℕ) → is_quiet e ≡ true → (called x t e).reply ≡ said_at_once e
 said_in x t (Says said) h = refl
