@@ -1,19 +1,15 @@
 //! A job, run from a program of your own: the library's crates read it, run it and give its journal.
 #![tactic(auto)]
 
-ghost use Rattle.std.specs.Prelude.{◌≡◌, ◌<◌, ◌-◌, ◌^◌, length, IfOk};
-ghost use Rattle.mpi_law.specs.declared.setting.Setting.{Setting};
-ghost use Rattle.mpi_law.specs.Registry.State.{registry_opening};
-ghost use Rattle.mpi_law.specs.Registry.Runs.{IsRegistryRun};
-ghost use Rattle.mpi_protocol.specs.Run.{events_of};
+ghost use Rattle.std.specs.Prelude.{◌<◌, ◌-◌, ◌^◌, length, IfOk};
+ghost use Rattle.library_example.specs.Whole.{IsWhole};
 
 use job_file::{JobFault, read_job};
-use job_law::sets_of_jobs_are_of_ranks;
-use registry_law::runs_are_registry_runs;
+use job_law::{scripts_of_jobs_are_ops, sets_of_jobs_are_of_ranks};
+use job_run::run_job;
 use std::alloc::Global;
 use std::process::ExitCode;
-use world_core::{Journal, World};
-use world_drain::drain;
+use world_core::Journal;
 
 /// Two ranks make a communicator together.
 const JOB: &[u8] = b"
@@ -32,17 +28,16 @@ create g \"t\" -> c
 \"\"\"
 ";
 
-/// The journal of a job, a run of the central registry.
+/// The journal of a job, run until nothing is left to do.
 fn run(alloc: Global, bytes: &[u8]) -> Result<Journal, JobFault>
     requires { length bytes.now < 2 ^ 32 - 1 }
-    ensures { IfOk result (λ journal. (s : Setting) × IsRegistryRun s (registry_opening s) (events_of journal.entries)) }
+    ensures whole { IfOk result (λ journal. IsWhole bytes.now journal.entries) }
 {
     let job = read_job(alloc, bytes)?;
     sets_of_jobs_are_of_ranks();
-    runs_are_registry_runs();
-    let mut world = World::<1>::start(alloc, job.setting)?;
-    drain(&mut world, &job.scripts)?;
-    Ok(world.into_journal())
+    scripts_of_jobs_are_ops();
+    let ran = run_job(alloc, &job)?;
+    Ok(ran.journal)
 }
 
 fn main(rt: HostRuntime) -> ExitCode {

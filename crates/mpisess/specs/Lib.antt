@@ -4,5 +4,4 @@ pub mod Commands
 pub mod Jobs
 pub mod Statuses
 pub mod Stops
-pub mod Idle
 pub mod Outputs

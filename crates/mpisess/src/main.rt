@@ -6,7 +6,6 @@ mod command;
 mod input;
 mod jobs;
 mod output;
-mod run;
 mod session;
 mod status;
 #[cfg(test)]

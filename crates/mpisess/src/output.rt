@@ -6,9 +6,9 @@ ghost use Rattle.mpisess.specs.Outputs.{output_of};
 ghost use Rattle.mpisess.specs.Statuses.{was_run, was_written};
 
 use crate::command::Command;
-use crate::run::Ran;
 use crate::status::Status;
 use io_edge::{Failed, Sink};
+use job_run::Ran;
 use journal_out::write_journal;
 use journal_summary::write_summary;
 use mpi_base::Entry;

@@ -27,11 +27,11 @@ ghost use Rattle.mpisess.specs.Statuses.{is_usage, is_bad_job, is_of_input, was_
 use crate::command::{Command, command_in};
 use crate::jobs::{commands_tell, find_job};
 use crate::output::write_out;
-use crate::run::run_job;
 use crate::status::Status;
 use history_text::texts_tell;
 use io_edge::{Sink, Source};
 use job_file::{Job, JobFault};
+use job_run::run_job;
 use std::alloc::Global;
 use world_core::Journal;
 

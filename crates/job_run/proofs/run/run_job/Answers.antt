@@ -2,9 +2,9 @@ use Rattle.std.proofs.Common.{List, All, ap, subst, ◌∙◌}
 use Rattle.mpi_base.specs.declared.entries.Entry.{Entry}
 use Rattle.history_text.specs.Ranges.{EntryInRange}
 use Rattle.mpi_protocol.specs.World.{opening}
-use Rattle.mpisess.proofs.Drained.{DrainedRun, drained_run, all_ended, none_ended}
-use Rattle.mpisess.proofs.Formed.{calls_are_ops}
-use Rattle.mpisess.proofs.run.run_job.Goals as goal
+use Rattle.job_run.proofs.Drained.{DrainedRun, drained_run, all_ended, none_ended}
+use Rattle.job_run.proofs.Formed.{calls_are_ops}
+use Rattle.job_run.proofs.run.run_job.Goals as goal
 
 drained : (c : goal.After-ended_scripts_are_called_whole) → DrainedRun c.args.job.now.setting c.args.job.now.scripts c.into_journal-journal.result.entries c.drain.new.world
 drained c =

@@ -14,7 +14,7 @@ ghost use Rattle.job_law.specs.Scripts.{ScriptsAreOps};
 ghost use Rattle.projection_law.specs.Premises.{SetsAreOfRanks};
 ghost use Rattle.registry_law.specs.Facts.{registry_of};
 ghost use Rattle.script_law.specs.Called.{AreOfScripts, AreEnded};
-ghost use Rattle.mpisess.specs.Idle.{RanksAreIdle, ThreadsAreIdle};
+ghost use Rattle.job_run.specs.Idle.{RanksAreIdle, ThreadsAreIdle};
 
 use closed_law::quiet_ends_are_closed;
 use entry_law::entries_are_well_formed;
@@ -30,14 +30,17 @@ use world_drain::drain;
 
 /// What is left of a job that was run.
 #[derive(Drop)]
-pub(crate) struct Ran {
-    pub(crate) journal: Journal,
+pub struct Ran {
+    /// The journal.
+    pub journal: Journal,
     /// Whether every script is ended.
-    pub(crate) ended: bool,
+    pub ended: bool,
 }
 
-/// Drains a job from its start.
-pub(crate) fn run_job(alloc: Global, job: &Job) -> Result<Ran, OutOfMemory>
+/// Runs a job from its start until nothing is left to do, each time by the first of the choices that may be
+/// made. What is asked of the job holds of every one that was read (`job_file`, `job_law`) or generated
+/// (`job_gen`, `job_law`).
+pub fn run_job(alloc: Global, job: &Job) -> Result<Ran, OutOfMemory>
     requires setting { IsSetting job.now.setting }
     requires ranks { job.now.scripts.ranks ≡ job.now.setting.ranks }
     requires sets { SetsAreOfRanks job.now.setting }

@@ -11,7 +11,7 @@ use Rattle.mpi_protocol.specs.Order.{IsDrained, IsQuiet}
 use Rattle.world_core.specs.Held.{Held}
 use Rattle.world_drain.specs.Drains.{Goes}
 use Rattle.script_law.specs.Called.{AreEnded}
-use Rattle.mpisess.specs.Idle.{RanksAreIdle}
+use Rattle.job_run.specs.Idle.{RanksAreIdle}
 
 -- a drained run of a job to a quiet end, which is this world
 pub record DrainedRun (s : Setting) (scripts : AllScripts) (journal : List Entry) (end : Held) : Type 0 where
