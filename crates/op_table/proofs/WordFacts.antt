@@ -9,37 +9,7 @@ use Rattle.op_table.specs.declared.kinds.OpKind.TheVariants as kind
 -- each kind is found by its word
 pub kind_again : (k : OpKind) → kind_in (word_text k) ≡ Some k
 kind_again kind.Session = refl
-kind_again kind.Finalize = refl
-kind_again kind.Psets = refl
-kind_again kind.Nth = refl
-kind_again kind.Info = refl
-kind_again kind.Pset = refl
-kind_again kind.Union = refl
-kind_again kind.Intersect = refl
-kind_again kind.Difference = refl
-kind_again kind.Incl = refl
-kind_again kind.Excl = refl
-kind_again kind.RangeIncl = refl
-kind_again kind.RangeExcl = refl
-kind_again kind.Translate = refl
-kind_again kind.Compare = refl
-kind_again kind.Size = refl
-kind_again kind.Rank = refl
-kind_again kind.Gfree = refl
-kind_again kind.Create = refl
-kind_again kind.Dup = refl
-kind_again kind.Split = refl
-kind_again kind.CreateGroup = refl
-kind_again kind.Group = refl
-kind_again kind.Ccompare = refl
-kind_again kind.Csize = refl
-kind_again kind.Crank = refl
-kind_again kind.Free = refl
-kind_again kind.Send = refl
-kind_again kind.Recv = refl
-kind_again kind.Irecv = refl
-kind_again kind.Wait = refl
-kind_again kind.Await = refl
+kind_again _ = refl
 
 -- two kinds with one word are one
 pub kind_alone : (j k : OpKind) → word_text j ≡ word_text k → j ≡ k

@@ -5,60 +5,66 @@ ghost use Rattle.op_table.specs.declared.kinds.OpKind.{OpKind as AnyKind};
 
 use crate::kinds::{Field, OpKind};
 
-/// Picks the kinds, a word or a list of fields out of rows.
-macro_rules! pick {
-    (kinds; $($kind:ident $word:literal ($($field:ident)*);)*) => {
-        [$(OpKind::$kind),*]
-    };
-    (word $found:expr; $($kind:ident $word:literal ($($field:ident)*);)*) => {
-        match $found {
-            $(OpKind::$kind => $word),*
-        }
-    };
-    (form $found:expr; $($kind:ident $word:literal ($($field:ident)*);)*) => {
-        match $found {
-            $(OpKind::$kind => &[$(Field::$field),*]),*
+/// The rows: each kind, its word, and the fields behind the word in written order, each with a name
+/// and the kind of field that it is. Behind `->` stands the name that the operation binds.
+///
+/// `operations!(rows; given)` calls the macro `rows!` of the caller, as
+/// `rows! { given; Session b"session" (target: Name); .. }`, with all the rows. What `rows!` makes of
+/// them may use the fields' names as variables.
+#[macro_export]
+macro_rules! operations {
+    ($rows:ident; $($given:tt)*) => {
+        $rows! {
+            $($given)*;
+            Session b"session" (target: Name);
+            Finalize b"finalize" (session: Name);
+            Psets b"psets" (session: Name);
+            Nth b"nth" (session: Name, number: Num);
+            Info b"info" (session: Name, set: Pset);
+            Pset b"pset" (session: Name, set: Pset -> target: Name);
+            Union b"union" (first: Name, second: Name -> target: Name);
+            Intersect b"intersect" (first: Name, second: Name -> target: Name);
+            Difference b"difference" (first: Name, second: Name -> target: Name);
+            Incl b"incl" (group: Name, ranks: List -> target: Name);
+            Excl b"excl" (group: Name, ranks: List -> target: Name);
+            RangeIncl b"range_incl" (group: Name, ranges: TripletList -> target: Name);
+            RangeExcl b"range_excl" (group: Name, ranges: TripletList -> target: Name);
+            Translate b"translate" (from: Name, ranks: NullList, to: Name);
+            Compare b"compare" (first: Name, second: Name);
+            Size b"size" (group: Name);
+            Rank b"rank" (group: Name);
+            Gfree b"gfree" (group: Name);
+            Create b"create" (group: Name, tag: Quoted -> target: Name);
+            Dup b"dup" (comm: Name -> target: Name);
+            Split b"split" (comm: Name, colour: Colour, key: Int -> target: Name);
+            CreateGroup b"create_group" (comm: Name, group: Name, tag: Num -> target: Name);
+            Group b"group" (comm: Name -> target: Name);
+            Ccompare b"ccompare" (first: Name, second: Name);
+            Csize b"csize" (comm: Name);
+            Crank b"crank" (comm: Name);
+            Free b"free" (comm: Name);
+            Send b"send" (comm: Name, to: Dest, tag: Num, payload: Hex);
+            Recv b"recv" (comm: Name, source: Source, tag: TagOrAny, room: Num);
+            Irecv b"irecv" (comm: Name, source: Source, tag: TagOrAny, room: Num -> target: Name);
+            Wait b"wait" (request: Name);
+            Await b"await" (target: Name);
         }
     };
 }
 
-/// The rows: each kind, its word, and the fields behind the word.
-macro_rules! operations {
-    ($($wanted:tt)*) => {
-        pick! {
-            $($wanted)*;
-            Session b"session" (Name);
-            Finalize b"finalize" (Name);
-            Psets b"psets" (Name);
-            Nth b"nth" (Name Num);
-            Info b"info" (Name Pset);
-            Pset b"pset" (Name Pset Arrow Name);
-            Union b"union" (Name Name Arrow Name);
-            Intersect b"intersect" (Name Name Arrow Name);
-            Difference b"difference" (Name Name Arrow Name);
-            Incl b"incl" (Name List Arrow Name);
-            Excl b"excl" (Name List Arrow Name);
-            RangeIncl b"range_incl" (Name TripletList Arrow Name);
-            RangeExcl b"range_excl" (Name TripletList Arrow Name);
-            Translate b"translate" (Name NullList Name);
-            Compare b"compare" (Name Name);
-            Size b"size" (Name);
-            Rank b"rank" (Name);
-            Gfree b"gfree" (Name);
-            Create b"create" (Name Quoted Arrow Name);
-            Dup b"dup" (Name Arrow Name);
-            Split b"split" (Name Colour Int Arrow Name);
-            CreateGroup b"create_group" (Name Name Num Arrow Name);
-            Group b"group" (Name Arrow Name);
-            Ccompare b"ccompare" (Name Name);
-            Csize b"csize" (Name);
-            Crank b"crank" (Name);
-            Free b"free" (Name);
-            Send b"send" (Name Dest Num Hex);
-            Recv b"recv" (Name Source TagOrAny Num);
-            Irecv b"irecv" (Name Source TagOrAny Num Arrow Name);
-            Wait b"wait" (Name);
-            Await b"await" (Name);
+/// Picks the kinds, a word or a list of fields out of the rows.
+macro_rules! pick {
+    (kinds; $($kind:ident $word:literal $fields:tt;)*) => {
+        [$(OpKind::$kind),*]
+    };
+    (word $found:expr; $($kind:ident $word:literal $fields:tt;)*) => {
+        match $found {
+            $(OpKind::$kind => $word),*
+        }
+    };
+    (form $found:expr; $($kind:ident $word:literal ($($name:ident: $field:ident),* $(-> $target:ident: $bound:ident)?);)*) => {
+        match $found {
+            $(OpKind::$kind => &[$(Field::$field,)* $(Field::Arrow, Field::$bound)?]),*
         }
     };
 }
@@ -68,14 +74,14 @@ pub fn word_of(kind: OpKind) -> &'static [u8]
     ensures word { result.now ≡ word_text kind }
     ensures short { length result.now ≤ 12 }
 {
-    operations!(word kind)
+    operations!(pick; word kind)
 }
 
 /// The fields behind the word of an operation, in written order.
 pub fn form_of(kind: OpKind) -> &'static [Field]
     ensures { result.now ≡ fields_of kind }
 {
-    operations!(form kind)
+    operations!(pick; form kind)
 }
 
 /// The operation with this word; None exactly where no operation has it.
@@ -84,7 +90,7 @@ pub fn kind_of(word: &[u8]) -> Option<OpKind>
     ensures found { IfSome result (λ k. word_text k ≡ word.now) }
     ensures none { IfNone result ((k : AnyKind) → word_text k ≡ word.now → ⊥) }
 {
-    first_with(&operations!(kinds), word)
+    first_with(&operations!(pick; kinds), word)
 }
 
 fn first_with<const N: usize>(kinds: &[OpKind; N], word: &[u8]) -> Option<OpKind>
