@@ -17,37 +17,7 @@ use Rattle.script_text.proofs.Laws.{AreExact, same_value}
 -- the fields of an operation's kind are those of its values
 pub same_fields : (op : Op) → map field_of (values_of op) ≡ fields_of (kind_of op)
 same_fields (Session s) = refl
-same_fields (Finalize s) = refl
-same_fields (Psets s) = refl
-same_fields (Nth s n) = refl
-same_fields (Info s p) = refl
-same_fields (Pset s p g) = refl
-same_fields (Union a b g) = refl
-same_fields (Intersect a b g) = refl
-same_fields (Difference a b g) = refl
-same_fields (Incl a zs g) = refl
-same_fields (Excl a zs g) = refl
-same_fields (RangeIncl a ps g) = refl
-same_fields (RangeExcl a ps g) = refl
-same_fields (Translate a rs b) = refl
-same_fields (Compare a b) = refl
-same_fields (Size a) = refl
-same_fields (Rank a) = refl
-same_fields (Gfree a) = refl
-same_fields (Create a t c) = refl
-same_fields (Dup c d) = refl
-same_fields (Split c k z d) = refl
-same_fields (CreateGroup c a n d) = refl
-same_fields (Group c g) = refl
-same_fields (Ccompare c d) = refl
-same_fields (Csize c) = refl
-same_fields (Crank c) = refl
-same_fields (Free c) = refl
-same_fields (Send c r n bs) = refl
-same_fields (Recv c r t n) = refl
-same_fields (Irecv c r t n q) = refl
-same_fields (Wait q) = refl
-same_fields (Await x) = refl
+same_fields _ = refl
 
 -- what an operation has in one place
 
@@ -132,37 +102,7 @@ rebuild kind.Await vs = Await (text_at (place vs 0))
 -- kind and values make the operation
 pub rebuilt : (op : Op) → rebuild (kind_of op) (values_of op) ≡ op
 rebuilt (Session s) = refl
-rebuilt (Finalize s) = refl
-rebuilt (Psets s) = refl
-rebuilt (Nth s n) = refl
-rebuilt (Info s p) = refl
-rebuilt (Pset s p g) = refl
-rebuilt (Union a b g) = refl
-rebuilt (Intersect a b g) = refl
-rebuilt (Difference a b g) = refl
-rebuilt (Incl a zs g) = refl
-rebuilt (Excl a zs g) = refl
-rebuilt (RangeIncl a ps g) = refl
-rebuilt (RangeExcl a ps g) = refl
-rebuilt (Translate a rs b) = refl
-rebuilt (Compare a b) = refl
-rebuilt (Size a) = refl
-rebuilt (Rank a) = refl
-rebuilt (Gfree a) = refl
-rebuilt (Create a t c) = refl
-rebuilt (Dup c d) = refl
-rebuilt (Split c k z d) = refl
-rebuilt (CreateGroup c a n d) = refl
-rebuilt (Group c g) = refl
-rebuilt (Ccompare c d) = refl
-rebuilt (Csize c) = refl
-rebuilt (Crank c) = refl
-rebuilt (Free c) = refl
-rebuilt (Send c r n bs) = refl
-rebuilt (Recv c r t n) = refl
-rebuilt (Irecv c r t n q) = refl
-rebuilt (Wait q) = refl
-rebuilt (Await x) = refl
+rebuilt _ = refl
 
 -- fields and tokens tell the values, whatever tokens follow
 pub same_values : AreExact → (vs ws : List Value) (xs ys : List (List ℕ)) → AllByRecursion Fits vs → AllByRecursion Fits ws

@@ -10,7 +10,7 @@ ghost use Rattle.mpi_base.specs.declared.ops.Op.{Op as AnyOp};
 use crate::faults::{FaultKind, LineFault};
 use crate::reader::Reader;
 use mpi_base::Op;
-use op_table::{OpKind, kind_of};
+use op_table::{OpKind, kind_of, operations};
 use token_text::forms_are_exact;
 
 fn first_solid(line: &[u8]) -> Option<u8>
@@ -29,73 +29,39 @@ pub fn is_blank(line: &[u8]) -> bool
     }
 }
 
+/// Reads one field of a row of the table: with the reader's method for that kind of field.
+macro_rules! read_field {
+    ($reader:ident Name) => { $reader.name()? };
+    ($reader:ident Pset) => { $reader.pset()? };
+    ($reader:ident Quoted) => { $reader.quoted()? };
+    ($reader:ident Num) => { $reader.num()? };
+    ($reader:ident Int) => { $reader.int()? };
+    ($reader:ident Hex) => { $reader.hex()? };
+    ($reader:ident List) => { $reader.list()? };
+    ($reader:ident NullList) => { $reader.null_list()? };
+    ($reader:ident TripletList) => { $reader.triplet_list()? };
+    ($reader:ident Dest) => { $reader.dest()? };
+    ($reader:ident Source) => { $reader.source()? };
+    ($reader:ident TagOrAny) => { $reader.tag_or_any()? };
+    ($reader:ident Colour) => { $reader.colour()? };
+    ($reader:ident -> Name) => { $reader.target()? };
+}
+
+/// Reads the fields of a kind, by the rows of the table: for `Nth b"nth" (session: Name, number: Num)`
+/// it writes the arm `OpKind::Nth => Ok(Op::Nth(reader.name()?, reader.num()?))`.
+macro_rules! read_row {
+    ($kind:ident $reader:ident; $($op:ident $word:literal ($($name:ident: $field:ident),* $(-> $target:ident: $bound:ident)?);)*) => {
+        match $kind {
+            $(OpKind::$op => Ok(Op::$op($(read_field!($reader $field),)* $(read_field!($reader -> $bound))?)),)*
+        }
+    };
+}
+
 /// The operation of a kind whose fields come next, or the first fault among them.
 pub fn read_fields(kind: OpKind, reader: &mut Reader) -> Result<Op, LineFault>
     ensures { ReadsOp kind reader.old reader.new result }
 {
-    match kind {
-        OpKind::Session => Ok(Op::Session(reader.name()?)),
-        OpKind::Finalize => Ok(Op::Finalize(reader.name()?)),
-        OpKind::Psets => Ok(Op::Psets(reader.name()?)),
-        OpKind::Nth => Ok(Op::Nth(reader.name()?, reader.num()?)),
-        OpKind::Info => Ok(Op::Info(reader.name()?, reader.pset()?)),
-        OpKind::Pset => Ok(Op::Pset(reader.name()?, reader.pset()?, reader.target()?)),
-        OpKind::Union => Ok(Op::Union(reader.name()?, reader.name()?, reader.target()?)),
-        OpKind::Intersect => Ok(Op::Intersect(reader.name()?, reader.name()?, reader.target()?)),
-        OpKind::Difference => Ok(Op::Difference(reader.name()?, reader.name()?, reader.target()?)),
-        OpKind::Incl => Ok(Op::Incl(reader.name()?, reader.list()?, reader.target()?)),
-        OpKind::Excl => Ok(Op::Excl(reader.name()?, reader.list()?, reader.target()?)),
-        OpKind::RangeIncl => Ok(Op::RangeIncl(
-            reader.name()?,
-            reader.triplet_list()?,
-            reader.target()?,
-        )),
-        OpKind::RangeExcl => Ok(Op::RangeExcl(
-            reader.name()?,
-            reader.triplet_list()?,
-            reader.target()?,
-        )),
-        OpKind::Translate => Ok(Op::Translate(reader.name()?, reader.null_list()?, reader.name()?)),
-        OpKind::Compare => Ok(Op::Compare(reader.name()?, reader.name()?)),
-        OpKind::Size => Ok(Op::Size(reader.name()?)),
-        OpKind::Rank => Ok(Op::Rank(reader.name()?)),
-        OpKind::Gfree => Ok(Op::Gfree(reader.name()?)),
-        OpKind::Create => Ok(Op::Create(reader.name()?, reader.quoted()?, reader.target()?)),
-        OpKind::Dup => Ok(Op::Dup(reader.name()?, reader.target()?)),
-        OpKind::Split => Ok(Op::Split(
-            reader.name()?,
-            reader.colour()?,
-            reader.int()?,
-            reader.target()?,
-        )),
-        OpKind::CreateGroup => Ok(Op::CreateGroup(
-            reader.name()?,
-            reader.name()?,
-            reader.num()?,
-            reader.target()?,
-        )),
-        OpKind::Group => Ok(Op::Group(reader.name()?, reader.target()?)),
-        OpKind::Ccompare => Ok(Op::Ccompare(reader.name()?, reader.name()?)),
-        OpKind::Csize => Ok(Op::Csize(reader.name()?)),
-        OpKind::Crank => Ok(Op::Crank(reader.name()?)),
-        OpKind::Free => Ok(Op::Free(reader.name()?)),
-        OpKind::Send => Ok(Op::Send(reader.name()?, reader.dest()?, reader.num()?, reader.hex()?)),
-        OpKind::Recv => Ok(Op::Recv(
-            reader.name()?,
-            reader.source()?,
-            reader.tag_or_any()?,
-            reader.num()?,
-        )),
-        OpKind::Irecv => Ok(Op::Irecv(
-            reader.name()?,
-            reader.source()?,
-            reader.tag_or_any()?,
-            reader.num()?,
-            reader.target()?,
-        )),
-        OpKind::Wait => Ok(Op::Wait(reader.name()?)),
-        OpKind::Await => Ok(Op::Await(reader.name()?)),
-    }
+    operations!(read_row; kind reader)
 }
 
 /// The operation that a line spells, or the first fault of the line. The line feed, and a carriage

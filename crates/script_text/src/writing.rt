@@ -4,7 +4,7 @@ ghost use Rattle.script_text.specs.Spelling.{name, pset, quoted, num, int, hex, 
 ghost use Rattle.script_text.specs.Writes.{line_of, Puts};
 
 use mpi_base::{Ints, Name, Op, Payload, PsetName, RankArgs, SrcArg, StringTag, Triplets};
-use op_table::{OpKind, word_of};
+use op_table::{OpKind, operations, word_of};
 use token_text::{
     Line, put, put_hex, put_int, put_int_or, put_ints, put_num_or, put_number, put_quoted,
     put_rank_args, put_source, put_triplets,
@@ -125,44 +125,53 @@ fn add_target(out: &mut Line, value: &Name)
     add_name(out, value);
 }
 
+/// The kind of an operation, by the rows of the table: for `Nth b"nth" (..)` it writes the arm
+/// `Op::Nth(..) => OpKind::Nth`.
+macro_rules! kind_of_row {
+    ($found:ident; $($op:ident $word:literal $fields:tt;)*) => {
+        match $found {
+            $(Op::$op(..) => OpKind::$op,)*
+        }
+    };
+}
+
 /// The kind of an operation.
 fn kind(op: &Op) -> OpKind
     ensures { result ≡ kind_of op.now }
 {
-    match op {
-        Op::Session(..) => OpKind::Session,
-        Op::Finalize(..) => OpKind::Finalize,
-        Op::Psets(..) => OpKind::Psets,
-        Op::Nth(..) => OpKind::Nth,
-        Op::Info(..) => OpKind::Info,
-        Op::Pset(..) => OpKind::Pset,
-        Op::Union(..) => OpKind::Union,
-        Op::Intersect(..) => OpKind::Intersect,
-        Op::Difference(..) => OpKind::Difference,
-        Op::Incl(..) => OpKind::Incl,
-        Op::Excl(..) => OpKind::Excl,
-        Op::RangeIncl(..) => OpKind::RangeIncl,
-        Op::RangeExcl(..) => OpKind::RangeExcl,
-        Op::Translate(..) => OpKind::Translate,
-        Op::Compare(..) => OpKind::Compare,
-        Op::Size(..) => OpKind::Size,
-        Op::Rank(..) => OpKind::Rank,
-        Op::Gfree(..) => OpKind::Gfree,
-        Op::Create(..) => OpKind::Create,
-        Op::Dup(..) => OpKind::Dup,
-        Op::Split(..) => OpKind::Split,
-        Op::CreateGroup(..) => OpKind::CreateGroup,
-        Op::Group(..) => OpKind::Group,
-        Op::Ccompare(..) => OpKind::Ccompare,
-        Op::Csize(..) => OpKind::Csize,
-        Op::Crank(..) => OpKind::Crank,
-        Op::Free(..) => OpKind::Free,
-        Op::Send(..) => OpKind::Send,
-        Op::Recv(..) => OpKind::Recv,
-        Op::Irecv(..) => OpKind::Irecv,
-        Op::Wait(..) => OpKind::Wait,
-        Op::Await(..) => OpKind::Await,
-    }
+    operations!(kind_of_row; op)
+}
+
+/// Adds one field of a row of the table: with the function above for that kind of field.
+macro_rules! add_field {
+    ($out:ident $value:ident Name) => { add_name($out, $value) };
+    ($out:ident $value:ident Pset) => { add_pset($out, $value) };
+    ($out:ident $value:ident Quoted) => { add_quoted($out, $value) };
+    ($out:ident $value:ident Num) => { add_num($out, *$value) };
+    ($out:ident $value:ident Int) => { add_int($out, *$value) };
+    ($out:ident $value:ident Hex) => { add_hex($out, $value) };
+    ($out:ident $value:ident List) => { add_list($out, $value) };
+    ($out:ident $value:ident NullList) => { add_null_list($out, $value) };
+    ($out:ident $value:ident TripletList) => { add_triplet_list($out, $value) };
+    ($out:ident $value:ident Dest) => { add_dest($out, *$value) };
+    ($out:ident $value:ident Source) => { add_source($out, *$value) };
+    ($out:ident $value:ident TagOrAny) => { add_tag_or_any($out, *$value) };
+    ($out:ident $value:ident Colour) => { add_colour($out, *$value) };
+    ($out:ident $value:ident -> Name) => { add_target($out, $value) };
+}
+
+/// Adds the fields of an operation, by the rows of the table: for
+/// `Nth b"nth" (session: Name, number: Num)` it writes the arm
+/// `Op::Nth(session, number) => { add_name(out, session); add_num(out, *number); }`.
+macro_rules! add_row {
+    ($found:ident $out:ident; $($op:ident $word:literal ($($name:ident: $field:ident),* $(-> $target:ident: $bound:ident)?);)*) => {
+        match $found {
+            $(Op::$op($($name,)* $($target)?) => {
+                $(add_field!($out $name $field);)*
+                $(add_field!($out $target -> $bound);)?
+            })*
+        }
+    };
 }
 
 /// Adds what stands behind an operation's word.
@@ -170,98 +179,7 @@ fn add_values(out: &mut Line, op: &Op)
     requires room { length out.old.items + 628 ≤ 2048 }
     ensures { Puts 628 (values_of op.now) out.old.items out.new.items }
 {
-    match op {
-        Op::Session(first)
-        | Op::Finalize(first)
-        | Op::Psets(first)
-        | Op::Size(first)
-        | Op::Rank(first)
-        | Op::Gfree(first)
-        | Op::Csize(first)
-        | Op::Crank(first)
-        | Op::Free(first)
-        | Op::Wait(first)
-        | Op::Await(first) => add_name(out, first),
-        Op::Nth(first, number) => {
-            add_name(out, first);
-            add_num(out, *number);
-        }
-        Op::Info(first, set) => {
-            add_name(out, first);
-            add_pset(out, set);
-        }
-        Op::Pset(first, set, bound) => {
-            add_name(out, first);
-            add_pset(out, set);
-            add_target(out, bound);
-        }
-        Op::Union(first, second, bound)
-        | Op::Intersect(first, second, bound)
-        | Op::Difference(first, second, bound) => {
-            add_name(out, first);
-            add_name(out, second);
-            add_target(out, bound);
-        }
-        Op::Incl(first, ranks, bound) | Op::Excl(first, ranks, bound) => {
-            add_name(out, first);
-            add_list(out, ranks);
-            add_target(out, bound);
-        }
-        Op::RangeIncl(first, ranges, bound) | Op::RangeExcl(first, ranges, bound) => {
-            add_name(out, first);
-            add_triplet_list(out, ranges);
-            add_target(out, bound);
-        }
-        Op::Translate(first, ranks, second) => {
-            add_name(out, first);
-            add_null_list(out, ranks);
-            add_name(out, second);
-        }
-        Op::Compare(first, second) | Op::Ccompare(first, second) => {
-            add_name(out, first);
-            add_name(out, second);
-        }
-        Op::Create(first, tag, bound) => {
-            add_name(out, first);
-            add_quoted(out, tag);
-            add_target(out, bound);
-        }
-        Op::Dup(first, bound) | Op::Group(first, bound) => {
-            add_name(out, first);
-            add_target(out, bound);
-        }
-        Op::Split(first, colour, key, bound) => {
-            add_name(out, first);
-            add_colour(out, *colour);
-            add_int(out, *key);
-            add_target(out, bound);
-        }
-        Op::CreateGroup(first, second, number, bound) => {
-            add_name(out, first);
-            add_name(out, second);
-            add_num(out, *number);
-            add_target(out, bound);
-        }
-        Op::Send(first, to, number, payload) => {
-            add_name(out, first);
-            add_dest(out, *to);
-            add_num(out, *number);
-            add_hex(out, payload);
-        }
-        Op::Recv(first, source, tag, number) => {
-            add_name(out, first);
-            add_source(out, *source);
-            add_tag_or_any(out, *tag);
-            add_num(out, *number);
-        }
-        Op::Irecv(first, source, tag, number, bound) => {
-            add_name(out, first);
-            add_source(out, *source);
-            add_tag_or_any(out, *tag);
-            add_num(out, *number);
-            add_target(out, bound);
-        }
-    }
+    operations!(add_row; op out)
 }
 
 /// Adds the line of an operation, with one space between two tokens, in at most 640 bytes.
