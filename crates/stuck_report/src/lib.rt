@@ -1,13 +1,19 @@
 //! Who waits for what at the end of a run, in words for a person.
 #![tactic(auto)]
 
+ghost use Rattle.std.specs.Prelude.{◌≡◌};
+ghost use Rattle.std.specs.Option.{option_copied};
+ghost use Rattle.stuck_report.specs.Waits.{is_entry_of, last_of, open_call, thread_in, waits_in};
+ghost use Rattle.stuck_report.specs.Places.{entry_at, is_in_table, noted, slot_of};
+
 use mpi_base::{Act, Entry, MOST_RANKS, Members, Name, Op, Reply};
 use mpi_law::THREADS;
 use script_text::{Line, write_op};
+use std::marker::Model;
 use std::{fmt, str};
 
 /// How many threads a world has at most.
-const MOST_THREADS: usize = 128;
+const MOST_THREADS: usize = MOST_RANKS as usize * THREADS as usize;
 
 /// The most threads that are told one by one.
 const MOST_TOLD: usize = 20;
@@ -21,8 +27,20 @@ const MOST_TOLD: usize = 20;
 #[derive(Drop)]
 pub struct Stuck<'a> {
     entries: &'a [Entry],
-    /// The place of the call in which each thread waits, at `THREADS` times its rank and its own number.
+    /// The place of the last entry of each thread, at `THREADS` times its rank and its own number.
     places: [Option<usize>; MOST_THREADS],
+}
+
+impl<'a> Model for Stuck<'a> {
+    ghost use Rattle.std.specs.Prelude.{List};
+    ghost use Rattle.mpi_base.specs.declared.entries.Entry.{Entry};
+    ghost use Rattle.stuck_report.specs.Places.{TellsLast};
+
+    ghost Value = { List Entry };
+
+    ghost view = { λ s. s.entries.now };
+
+    ghost invariant = { λ s. TellsLast s.places s.entries.now s.entries.now };
 }
 
 /// A call of a creation from a group.
@@ -33,7 +51,9 @@ struct Creation<'a> {
 }
 
 /// The thread that calls or is answered.
-fn thread_of(act: &Act) -> Option<u8> {
+fn thread_of(act: &Act) -> Option<u8>
+    ensures { result ≡ thread_in act.now }
+{
     match act {
         Act::Call { thread, .. } | Act::Answer { thread } => Some(*thread),
         Act::Deliver { .. }
@@ -44,9 +64,59 @@ fn thread_of(act: &Act) -> Option<u8> {
     }
 }
 
-/// The place of a thread among all.
-fn slot(rank: u16, thread: u8) -> usize {
-    rank as usize * THREADS as usize + thread as usize
+/// Whether an entry is a call or an answer of a thread of a rank.
+fn is_of(entry: &Entry, rank: u16, thread: u8) -> bool
+    ensures { result ≡ is_entry_of rank thread entry.now }
+{
+    entry.choice.rank == rank && thread_of(&entry.choice.act) == Some(thread)
+}
+
+/// The operation of a call without a reply.
+fn unanswered(entry: &Entry) -> Option<&Op>
+    ensures { option_copied result ≡ open_call entry.now }
+{
+    match (&entry.choice.act, &entry.reply) {
+        (Act::Call { op, .. }, None) => Some(op),
+        _ => None,
+    }
+}
+
+/// Whether a thread has a place in the table.
+fn has_slot(rank: u16, thread: u8) -> bool
+    ensures { result ≡ is_in_table rank thread }
+{
+    rank < MOST_RANKS && thread < THREADS
+}
+
+/// The place of a thread in the table.
+fn slot(rank: u16, thread: u8) -> usize
+    ensures { result ≡ slot_of rank thread }
+{
+    THREADS as usize * rank as usize + thread as usize
+}
+
+/// The place of the last entry of a thread.
+fn last_place(entries: &[Entry], rank: u16, thread: u8) -> Option<usize>
+    ensures { entry_at entries.now result ≡ last_of entries.now rank thread }
+{
+    let mut last = None;
+    for (place, entry) in entries.iter().enumerate() {
+        if is_of(entry, rank, thread) {
+            last = Some(place);
+        }
+    }
+    last
+}
+
+/// Notes where the last entry of a thread stands.
+fn note(places: &mut [Option<usize>; MOST_THREADS], place: usize, entry: &Entry)
+    ensures { places.new ≡ noted places.old place entry.now }
+{
+    if let Some(thread) = thread_of(&entry.choice.act) {
+        if has_slot(entry.choice.rank, thread) {
+            places[slot(entry.choice.rank, thread)] = Some(place);
+        }
+    }
 }
 
 /// The name that an operation binds to a group.
@@ -96,39 +166,39 @@ fn is_alike(first: &Op, second: &Op) -> bool {
 
 impl<'a> Stuck<'a> {
     /// Who waits at the end of a journal.
-    pub fn at_end(entries: &'a [Entry]) -> Stuck<'a> {
+    pub fn at_end(entries: &'a [Entry]) -> Stuck<'a>
+        ensures { result ≡ entries.now }
+    {
         let mut places = [None; MOST_THREADS];
         for (place, entry) in entries.iter().enumerate() {
-            if let Some(thread) = thread_of(&entry.choice.act) {
-                if let Some(waits) = places.get_mut(slot(entry.choice.rank, thread)) {
-                    *waits = if entry.reply.is_none() {
-                        Some(place)
-                    } else {
-                        None
-                    };
-                }
-            }
+            note(&mut places, place, entry);
         }
         Stuck { entries, places }
     }
 
-    /// The place of the call in which a thread waits.
-    fn place(&self, rank: u16, thread: u8) -> Option<usize> {
-        *self.places.get(slot(rank, thread))?
+    /// The place of the last entry of a thread.
+    fn place(&self, rank: u16, thread: u8) -> Option<usize>
+        ensures { entry_at self.now result ≡ last_of self.now rank thread }
+    {
+        if has_slot(rank, thread) {
+            self.places[slot(rank, thread)]
+        } else {
+            last_place(self.entries, rank, thread)
+        }
     }
 
-    /// The operation in which a thread waits.
-    fn waits_in(&self, rank: u16, thread: u8) -> Option<&'a Op> {
-        let place = self.place(rank, thread)?;
-        match &self.entries.get(place)?.choice.act {
-            Act::Call { op, .. } => Some(op),
-            Act::Answer { .. }
-            | Act::Deliver { .. }
-            | Act::Offer { .. }
-            | Act::Settle { .. }
-            | Act::Leave { .. }
-            | Act::Back { .. } => None,
-        }
+    /// The last entry of a thread.
+    fn last_of(&self, rank: u16, thread: u8) -> Option<&'a Entry>
+        ensures { option_copied result ≡ last_of self.now rank thread }
+    {
+        self.entries.get(self.place(rank, thread)?)
+    }
+
+    /// The operation in which a thread waits: that of its last entry, where this is a call without a reply.
+    pub fn waits_in(&self, rank: u16, thread: u8) -> Option<&'a Op>
+        ensures { option_copied result ≡ waits_in self.now rank thread }
+    {
+        unanswered(self.last_of(rank, thread)?)
     }
 
     /// The creation in which a thread waits, where it waits in one and the journal tells its members.
