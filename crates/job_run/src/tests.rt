@@ -30,7 +30,7 @@ fn assert_ends(
     alloc: Global,
     bytes: &[u8],
     ended: bool,
-    steps: usize,
+    steps: u64,
 ) -> Result<(), Fail>
     requires { length bytes.now < 2 ^ 32 - 1 }
 {

@@ -49,7 +49,7 @@ fn a_context_beyond_the_last_is_no_step(rt: HostRuntime) {
     assert_eq!(rt; journal.len(), 16);
 }
 
-fn assert_replays(rt: &impl Abort, alloc: Global, number: u64, ops: u32, steps: usize)
+fn assert_replays(rt: &impl Abort, alloc: Global, number: u64, ops: u32, steps: u64)
     requires least { LEAST_OPS ≤ ops }
     requires most { ops ≤ MOST_OPS }
 {
