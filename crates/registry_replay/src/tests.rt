@@ -35,17 +35,17 @@ fn a_context_beyond_the_last_is_no_step(rt: HostRuntime) {
     let job = read_job(rt.alloc(), PAIR).expect(&rt, "a job");
     let mut registry = Registry::start(rt.alloc(), &job.setting).expect(&rt, "memory");
     let journal = run_job(rt.alloc(), &job).expect(&rt, "memory").journal;
-    let mut picks = 0;
+    let mut refused = false;
     for entry in journal.as_slice() {
         if entry.said == Some(Said::Picked(1)) {
             let mut other = entry.copy();
             other.said = Some(Said::Picked(64));
             assert!(rt; !registry.try_step(&other).expect(&rt, "memory"));
-            picks += 1;
+            refused = true;
         }
         assert!(rt; registry.try_step(entry).expect(&rt, "memory"));
     }
-    assert_eq!(rt; picks, 1);
+    assert!(rt; refused);
     assert_eq!(rt; journal.len(), 16);
 }
 
