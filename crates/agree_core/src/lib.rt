@@ -9,7 +9,5 @@ mod offering;
 mod rows;
 mod settling;
 mod sharing;
-#[cfg(test)]
-mod tests;
 
 pub use agreements::{Agreements, Busy};

@@ -8,8 +8,6 @@ mod offers;
 mod packets;
 mod share_lists;
 mod shares;
-#[cfg(test)]
-mod tests;
 mod tree;
 
 pub use gathers::{Gathers, Joined};

@@ -5,8 +5,6 @@ mod binds;
 mod bound;
 mod laws;
 mod objects;
-#[cfg(test)]
-mod tests;
 
 pub use binds::Binds;
 pub use bound::Bound;

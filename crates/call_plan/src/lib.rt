@@ -10,7 +10,5 @@ mod groups;
 mod messages;
 mod names;
 mod sets;
-#[cfg(test)]
-mod tests;
 
 pub use call::{Around, Call};

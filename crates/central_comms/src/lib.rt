@@ -4,8 +4,6 @@
 mod comms;
 mod pairs;
 mod rows;
-#[cfg(test)]
-mod tests;
 
 pub use comms::Comms;
 pub use pairs::Pairs;

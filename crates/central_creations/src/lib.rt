@@ -9,8 +9,6 @@ mod names;
 mod picks;
 mod rows;
 mod splits;
-#[cfg(test)]
-mod tests;
 
 pub use callers::Caller;
 pub use creations::Creations;

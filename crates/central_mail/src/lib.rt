@@ -7,8 +7,6 @@ mod messages;
 mod posted;
 mod receives;
 mod sent;
-#[cfg(test)]
-mod tests;
 
 pub use mail::Mail;
 pub use messages::Message;

@@ -4,8 +4,6 @@
 mod effects;
 mod part;
 mod ranks;
-#[cfg(test)]
-mod tests;
 mod threads;
 mod wait;
 

@@ -2,7 +2,5 @@
 #![tactic(auto)]
 
 mod comms;
-#[cfg(test)]
-mod tests;
 
 pub use comms::CommTab;

@@ -5,8 +5,6 @@ mod acts;
 mod ends;
 mod ranges;
 mod reading;
-#[cfg(test)]
-mod tests;
 mod writing;
 
 pub use ranges::entries_are_in_range;

@@ -10,8 +10,6 @@ mod place;
 mod scripts;
 mod sets;
 mod solo;
-#[cfg(test)]
-mod tests;
 mod top;
 
 pub use faults::JobFault;

@@ -4,8 +4,6 @@
 mod draws;
 mod job;
 mod parts;
-#[cfg(test)]
-mod tests;
 mod words;
 
 pub use job::{

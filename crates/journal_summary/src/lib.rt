@@ -3,8 +3,6 @@
 
 mod counts;
 mod output;
-#[cfg(test)]
-mod tests;
 
 pub use counts::Summary;
 pub use output::write_summary;

@@ -9,7 +9,5 @@ mod matches;
 mod node;
 mod queue;
 mod queues;
-#[cfg(test)]
-mod tests;
 
 pub use matches::MatchBox;

@@ -3,8 +3,6 @@
 
 mod kinds;
 mod table;
-#[cfg(test)]
-mod tests;
 
 pub use kinds::{Field, OpKind};
 pub use table::{form_of, kind_of, word_of, words_tell};

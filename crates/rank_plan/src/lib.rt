@@ -4,8 +4,6 @@
 mod keys;
 mod surroundings;
 mod tables;
-#[cfg(test)]
-mod tests;
 
 pub use keys::key_of;
 pub use surroundings::Surroundings;

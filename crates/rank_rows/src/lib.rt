@@ -2,8 +2,6 @@
 #![tactic(auto)]
 
 mod receives;
-#[cfg(test)]
-mod tests;
 mod threads;
 mod waits;
 

@@ -4,8 +4,6 @@
 mod faults;
 mod lines;
 mod reader;
-#[cfg(test)]
-mod tests;
 mod writing;
 
 pub use faults::{FaultKind, LineFault};

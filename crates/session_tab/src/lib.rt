@@ -3,8 +3,6 @@
 
 mod ids;
 mod sessions;
-#[cfg(test)]
-mod tests;
 
 pub use ids::SessionId;
 pub use sessions::Sessions;

@@ -7,8 +7,6 @@ mod laws;
 mod lists;
 mod numbers;
 mod parts;
-#[cfg(test)]
-mod tests;
 mod texts;
 mod words;
 mod writing;
