@@ -1,10 +1,11 @@
 //! Who waits for what at the end of a run, in words for a person.
 #![tactic(auto)]
 
-ghost use Rattle.std.specs.Prelude.{◌≡◌};
+ghost use Rattle.std.specs.Prelude.{◌≡◌, reverse};
 ghost use Rattle.std.specs.Option.{option_copied};
 ghost use Rattle.stuck_report.specs.Waits.{is_entry_of, last_of, open_call, thread_in, waits_in};
-ghost use Rattle.stuck_report.specs.Places.{entry_at, is_in_table, noted, slot_of};
+ghost use Rattle.stuck_report.specs.Missing.{before_last, bound_by, creation_group, group_target, group_told, has_called, is_alike, is_binding, is_calling, last_bound, members_waited, missing, name_bound, not_calling};
+ghost use Rattle.stuck_report.specs.Places.{before_place, entry_at, is_in_table, noted, slot_of};
 
 use mpi_base::{Act, Entry, MOST_RANKS, Members, Name, Op, Reply};
 use mpi_law::THREADS;
@@ -41,13 +42,6 @@ impl<'a> Model for Stuck<'a> {
     ghost view = { λ s. s.entries.now };
 
     ghost invariant = { λ s. TellsLast s.places s.entries.now s.entries.now };
-}
-
-/// A call of a creation from a group.
-#[derive(Drop)]
-struct Creation<'a> {
-    op: &'a Op,
-    members: Members,
 }
 
 /// The thread that calls or is answered.
@@ -97,7 +91,8 @@ fn slot(rank: u16, thread: u8) -> usize
 
 /// The place of the last entry of a thread.
 fn last_place(entries: &[Entry], rank: u16, thread: u8) -> Option<usize>
-    ensures { entry_at entries.now result ≡ last_of entries.now rank thread }
+    ensures entry { entry_at entries.now result ≡ last_of entries.now rank thread }
+    ensures before { before_place entries.now result ≡ before_last entries.now rank thread }
 {
     let mut last = None;
     for (place, entry) in entries.iter().enumerate() {
@@ -120,7 +115,9 @@ fn note(places: &mut [Option<usize>; MOST_THREADS], place: usize, entry: &Entry)
 }
 
 /// The name that an operation binds to a group.
-fn group_target(op: &Op) -> Option<&Name> {
+fn group_target(op: &Op) -> Option<&Name>
+    ensures { option_copied result ≡ group_target op.now }
+{
     match op {
         Op::Pset(_, _, target)
         | Op::Union(_, _, target)
@@ -135,20 +132,67 @@ fn group_target(op: &Op) -> Option<&Name> {
     }
 }
 
-/// The members of the group that an entry binds to a name at a rank.
-fn bound_members(entry: &Entry, rank: u16, name: &Name) -> Option<Members> {
-    let (Act::Call { op, .. }, Some(Reply::Group(members))) = (&entry.choice.act, &entry.reply)
-    else {
-        return None;
-    };
-    if entry.choice.rank != rank || group_target(op) != Some(name) {
-        return None;
+/// The name that a step binds to a group.
+fn name_bound(act: &Act) -> Option<&Name>
+    ensures { option_copied result ≡ name_bound act.now }
+{
+    match act {
+        Act::Call { op, .. } => group_target(op),
+        _ => None,
     }
-    Some(members.copy())
+}
+
+/// The members of the group that a reply tells.
+fn group_told(reply: &Option<Reply>) -> Option<Members>
+    ensures { result ≡ group_told reply.now }
+{
+    match reply {
+        Some(Reply::Group(members)) => Some(members.copy()),
+        _ => None,
+    }
+}
+
+/// Whether an entry is a call at a rank that binds a name to a group, where it is not refused.
+fn is_binding(entry: &Entry, rank: u16, name: &Name) -> bool
+    ensures { result ≡ is_binding rank name.now entry.now }
+{
+    if entry.choice.rank != rank {
+        return false;
+    }
+    match name_bound(&entry.choice.act) {
+        Some(bound) => name == bound,
+        None => false,
+    }
+}
+
+/// The members of the group that an entry binds to a name at a rank.
+fn bound_by(entry: &Entry, rank: u16, name: &Name) -> Option<Members>
+    ensures { result ≡ bound_by rank name.now entry.now }
+{
+    if is_binding(entry, rank, name) {
+        group_told(&entry.reply)
+    } else {
+        None
+    }
+}
+
+/// The members of the group that was bound last to a name at a rank.
+fn last_bound(entries: &[Entry], rank: u16, name: &Name) -> Option<Members>
+    ensures { result ≡ last_bound (reverse entries.now) rank name.now }
+{
+    let mut last = None;
+    for entry in entries {
+        if let Some(members) = bound_by(entry, rank, name) {
+            last = Some(members);
+        }
+    }
+    last
 }
 
 /// The group from which an operation makes a communicator.
-fn group_of_creation(op: &Op) -> Option<&Name> {
+fn creation_group(op: &Op) -> Option<&Name>
+    ensures { option_copied result ≡ creation_group op.now }
+{
     match op {
         Op::Create(group, _, _) | Op::CreateGroup(_, group, _, _) => Some(group),
         _ => None,
@@ -156,7 +200,9 @@ fn group_of_creation(op: &Op) -> Option<&Name> {
 }
 
 /// Whether both operations are creations of one kind with one tag.
-fn is_alike(first: &Op, second: &Op) -> bool {
+fn is_alike(first: &Op, second: &Op) -> bool
+    ensures { result ≡ is_alike first.now second.now }
+{
     match (first, second) {
         (Op::Create(_, a, _), Op::Create(_, b, _)) => a == b,
         (Op::CreateGroup(_, _, a, _), Op::CreateGroup(_, _, b, _)) => a == b,
@@ -178,7 +224,8 @@ impl<'a> Stuck<'a> {
 
     /// The place of the last entry of a thread.
     fn place(&self, rank: u16, thread: u8) -> Option<usize>
-        ensures { entry_at self.now result ≡ last_of self.now rank thread }
+        ensures entry { entry_at self.now result ≡ last_of self.now rank thread }
+        ensures before { before_place self.now result ≡ before_last self.now rank thread }
     {
         if has_slot(rank, thread) {
             self.places[slot(rank, thread)]
@@ -201,38 +248,77 @@ impl<'a> Stuck<'a> {
         unanswered(self.last_of(rank, thread)?)
     }
 
-    /// The creation in which a thread waits, where it waits in one and the journal tells its members.
-    fn creation(&self, rank: u16, thread: u8) -> Option<Creation<'a>> {
-        let place = self.place(rank, thread)?;
-        let op = self.waits_in(rank, thread)?;
-        let group = group_of_creation(op)?;
-        let (before, _) = self.entries.split_at_checked(place)?;
-        let members = before
-            .iter()
-            .rev()
-            .find_map(|entry| bound_members(entry, rank, group))?;
-        Some(Creation { op, members })
+    /// The entries before the last one of a thread.
+    fn before_last(&self, rank: u16, thread: u8) -> &'a [Entry]
+        ensures { reverse result.now ≡ before_last self.now rank thread }
+    {
+        match self.place(rank, thread) {
+            Some(place) => match self.entries.split_at_checked(place) {
+                Some((before, _)) => before,
+                None => self.entries,
+            },
+            None => &[],
+        }
     }
 
-    /// Whether some thread of a rank waits in a creation.
-    fn has_called(&self, rank: u16, wanted: &Creation<'a>) -> bool {
-        (0..THREADS).any(|thread| match self.creation(rank, thread) {
-            Some(called) => is_alike(called.op, wanted.op) && called.members == wanted.members,
+    /// The members of the creation from a group in which a thread waits, where the journal tells them.
+    fn members_waited(&self, rank: u16, thread: u8) -> Option<Members>
+        ensures { result ≡ members_waited self.now rank thread }
+    {
+        let group = creation_group(self.waits_in(rank, thread)?)?;
+        last_bound(self.before_last(rank, thread), rank, group)
+    }
+
+    /// Whether a thread waits in a creation like this one, with the same members.
+    fn is_calling(&self, op: &Op, members: &Members, rank: u16, thread: u8) -> bool
+        ensures { result ≡ is_calling self.now op.now members.now rank thread }
+    {
+        let Some(called) = self.waits_in(rank, thread) else {
+            return false;
+        };
+        if !is_alike(op, called) {
+            return false;
+        }
+        match self.members_waited(rank, thread) {
+            Some(others) => *members == others,
             None => false,
-        })
+        }
+    }
+
+    /// Whether a thread of a rank waits in a creation like this one, with the same members.
+    fn has_called(&self, op: &Op, members: &Members, rank: u16) -> bool
+        ensures { result ≡ has_called self.now op.now members.now rank }
+    {
+        (0..THREADS).any(
+            |thread| -> bool
+                ensures { result ≡ is_calling self.entry.now op.entry.now members.entry.now rank thread }
+            { self.is_calling(op, members, rank, thread) },
+        )
     }
 
     /// The members of a creation that have not called it.
-    fn missing(&self, wanted: &Creation<'a>) -> Members {
+    fn not_calling(&self, op: &Op, members: &Members) -> Members
+        ensures { result ≡ not_calling self.now op.now members.now }
+    {
         let mut missing = Members::none();
-        for place in 0..wanted.members.len() {
-            if let Some(rank) = wanted.members.get(place) {
-                if !self.has_called(rank, wanted) {
+        for place in 0..members.len() {
+            if let Some(rank) = members.get(place) {
+                if !self.has_called(op, members, rank) {
                     missing.push(rank);
                 }
             }
         }
         missing
+    }
+
+    /// The members that have not called the creation in which a thread waits. None where it waits in no
+    /// creation from a group, or where the journal does not tell the members.
+    pub fn missing(&self, rank: u16, thread: u8) -> Option<Members>
+        ensures { result ≡ missing self.now rank thread }
+    {
+        let op = self.waits_in(rank, thread)?;
+        let members = self.members_waited(rank, thread)?;
+        Some(self.not_calling(op, &members))
     }
 
     /// Writes what a thread waits in.
@@ -250,8 +336,8 @@ impl<'a> Stuck<'a> {
             f,
             "mpisess: rank {rank}, thread {thread} waits in \"{text}\""
         )?;
-        match self.creation(rank, thread) {
-            Some(creation) => write_missing(f, &self.missing(&creation)),
+        match self.missing(rank, thread) {
+            Some(missing) => write_missing(f, &missing),
             None => Ok(()),
         }
     }

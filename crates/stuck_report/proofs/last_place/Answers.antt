@@ -1,11 +1,22 @@
 use Rattle.std.proofs.Common.{sym, ◌∙◌}
-use Rattle.stuck_report.proofs.PlaceFacts.{last_here, last_before}
+use Rattle.stuck_report.proofs.PlaceFacts.{last_here, before_here, last_stays, before_stays}
 use Rattle.stuck_report.proofs.last_place.Goals as goal
 use Rattle.stuck_report.proofs.last_place.Goals.{then-is_of, else-is_of}
 
 pub loop-place-preserved : goal.loop-place-preserved
 loop-place-preserved c =
+    let es = c.args.entries.now in
+    let p = c.loop-place.place in
+    let e = c.index-entries-place.result in
+    let below = c.loop-place-test.true in
+    let at = c.index-entries-place.is in
+    let r = c.args.rank in
+    let t = c.args.thread in
     elim c.if-is_of.branch [
-      | then-is_of w ↦ rw w.last-is (last_here c.args.entries.now c.loop-place.place c.index-entries-place.result c.loop-place-test.true c.index-entries-place.is c.args.rank c.args.thread (sym c.is_of.ensures ∙ w.if-is_of.true))
-      | else-is_of w ↦ rw w.last-is (last_before c.args.entries.now c.loop-place.place c.index-entries-place.result c.loop-place-test.true c.index-entries-place.is c.args.rank c.args.thread c.loop-place.last (sym c.is_of.ensures ∙ w.if-is_of.false) c.loop-place.invariant)
+      | then-is_of w ↦
+          let here = sym c.is_of.ensures ∙ w.if-is_of.true in
+          rw w.last-is (last_here es p e below at r t here, before_here es p e below at r t here)
+      | else-is_of w ↦
+          let other = sym c.is_of.ensures ∙ w.if-is_of.false in
+          rw w.last-is (last_stays es p e below at r t c.loop-place.last other c.loop-place.invariant.0, before_stays es p e below at r t c.loop-place.last other c.loop-place.invariant.1)
     ]
